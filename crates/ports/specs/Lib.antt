@@ -1,0 +1,2 @@
+pub mod Radio
+pub mod Source

@@ -1,0 +1,7 @@
+pub mod Memory
+pub mod Process
+pub mod Reception
+pub mod Entity
+pub mod Setup
+pub mod Questions
+pub mod Subframe
