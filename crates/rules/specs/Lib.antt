@@ -5,3 +5,4 @@ pub mod Entity
 pub mod Setup
 pub mod Questions
 pub mod Subframe
+pub mod Worked
