@@ -23,6 +23,7 @@ pub trait Source {
 
     // Writes the packet of the stretch's size into it, or says no and alters nothing.
     fn fill(&mut self, stretch: &mut [u8]) -> bool
+        ensures sizes { λ r. ⌜ Fits-size (length (now (stretch .entry))) (offers (now (self .entry)) (length (now (stretch .entry)))) ⌝ }
         ensures answer { λ r. ⌜ r ≡ isSome (offers (now (self .entry)) (length (now (stretch .entry)))) ⌝ }
         ensures bytes { λ r. ⌜ now (stretch .exit) ≡ valueOr (offers (now (self .entry)) (length (now (stretch .entry)))) (now (stretch .entry)) ⌝ }
         ensures after { λ r. ⌜ now (self .exit) ≡ source-after offers used (now (self .entry)) (Some (length (now (stretch .entry)))) ⌝ };

@@ -74,6 +74,9 @@ grant-questions su st (Some g) =
     ∷ (not (grant-wants-new su st g) || leb (g .mcs) 28, refusal.NewTransmissionMcs)
     ∷ []
 
+abbrev pub asked-of-grant : Setup → State → Option Grant → Result (Unit {0}) Refusal
+asked-of-grant su st g = first-no (grant-questions su st g)
+
 -- length of packet memory, can the radio take one more, is the subframe a gap, answer, grant
 abbrev pub subframe-questions : Setup → State → ℕ → Bool → Bool → Option Feedback → Option Grant → List (Bool × Refusal)
 subframe-questions su st n ready gap a g =
