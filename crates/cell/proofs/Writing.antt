@@ -1,7 +1,7 @@
 -- A packet written to the front of a stretch of packet memory.
 use Prim.Native.Nat.{ℕ, _+_, _-_, _*_, _≤_}
 use mathlib.Core.Bool.{true}
-use mathlib.Core.Path.{_≡_, refl, sym, ap, _∙_}
+use mathlib.Core.Path.{_≡_, refl, sym, ap, subst, _∙_}
 use mathlib.Core.List.{List, _++_}
 use native.Mathlib.Omega.{arith}
 use borrow.Rule.Slice.PartMut.{putMid}
@@ -15,6 +15,7 @@ use Rattle.rules.specs.Memory.{part, written}
 use Rattle.terms.specs.declared.decision.NewPacket.{NewPacket}
 use Rattle.ports.specs.Source.{source-after}
 use Rattle.rules.specs.Entity.{Fresh, obtained, obtained-by, msg3-taken, asked-by}
+use Rattle.rules.specs.Invariant.{Fresh-sized}
 use Rattle.cell.specs.Effects.{new-packet, with-packet, with-fresh}
 
 -- a part lent and written is a packet written, or nothing
@@ -40,6 +41,11 @@ module _ (g : GrantInForce) (msg3 : Option ℕ) (m : List ℕ) (offers : ℕ →
 
   pub msg3-packet : length (part m 8 n) ≡ n → marked n ≡ new-packet (obtained g msg3 m offers)
   msg3-packet z = ap marked (sym z) ∙ ap new-packet from-msg3
+
+  pub msg3-sized : length (part m 8 n) ≡ n → 1 ≤ n → n ≤ 645 → Fresh-sized (obtained g msg3 m offers)
+  msg3-sized z l u =
+      let P : Option Fresh → Type 0 = λ f. Fresh-sized f in
+      subst P from-msg3 (omega arith, omega arith)
 
   pub msg3-memory : written m k (part m 8 n) ≡ with-fresh m k (obtained g msg3 m offers)
   msg3-memory = ap (with-fresh m k) from-msg3

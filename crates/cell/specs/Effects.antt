@@ -1,16 +1,10 @@
--- What a subframe does to packet memory, and what its parts need.
-use Prim.Native.Nat.{ℕ, _≤_, _<_}
+-- What a subframe does to packet memory.
+use Prim.Native.Nat.{ℕ}
 use mathlib.Core.List.{List}
 use lib.ListN.{length}
-use Rattle.std.specs.Options.{valueOr}
 use Rattle.std.specs.declared.option.Option.{Option}
 use Rattle.std.specs.declared.option.Option.the-variants.{Some, None}
-use Rattle.terms.specs.declared.decision.Decision.{Decision}
-use Rattle.terms.specs.declared.decision.Decision.the-variants as decision
 use Rattle.terms.specs.declared.decision.NewPacket.{NewPacket}
-use Rattle.terms.specs.declared.decision.Work.{Work}
-use Rattle.terms.specs.declared.decision.Work.the-variants as work
-use Rattle.terms.specs.declared.process.Process.{Process}
 use Rattle.rules.specs.Memory.{written}
 use Rattle.rules.specs.Entity.{Fresh}
 
@@ -27,20 +21,3 @@ with-packet m k (Some b) = written m k b
 abbrev pub with-fresh : List ℕ → ℕ → Option Fresh → List ℕ
 with-fresh m k None = m
 with-fresh m k (Some f) = written m k (f .packet)
-
--- a decision whose grant has a packet's size
-abbrev pub Sized : Decision → Type 0
-Sized (decision.Rest o) = Unit {0}
-Sized (decision.New g) = g .size ≤ 645
-Sized (decision.Adaptive g) = Unit {0}
-Sized decision.NonAdaptive = Unit {0}
-
--- a process with a packet of 1 to 645 bytes
-abbrev pub Loaded : Process → Type 0
-Loaded p = (1 ≤ valueOr (p .buffer) 0) × (valueOr (p .buffer) 0 ≤ 645)
-
--- work that can be done
-abbrev pub Able : Work → Type 0
-Able (work.Rest o p) = Unit {0}
-Able (work.New p) = Loaded p
-Able (work.Again p acked) = Loaded p

@@ -10,7 +10,8 @@ ghost use Rattle.ports.specs.Source.{Fits-size, source-after};
 ghost use Rattle.rules.specs.Memory.{part, written};
 ghost use Rattle.rules.specs.Entity.{msg3-taken, asked-by, obtained};
 ghost use Rattle.rules.specs.Subframe.{sending-by};
-ghost use Rattle.cell.specs.Effects.{new-packet, with-packet, with-fresh, Loaded};
+ghost use Rattle.rules.specs.Invariant.{Fresh-sized};
+ghost use Rattle.cell.specs.Effects.{new-packet, with-packet, with-fresh};
 
 use ports::radio::Radio;
 use ports::source::Source;
@@ -73,7 +74,9 @@ pub(crate) fn take_msg3(reception: Reception, msg3: Option<u16>) -> Option<u16>
 
 // A packet for a new transmission goes to the front of stretch `k`: from the Msg3 buffer, or else from the source.
 pub(crate) fn obtain<S: Source>(memory: &mut [u8], source: &mut S, k: u8, msg3: Option<u16>, g: GrantInForce) -> Option<NewPacket>
-    requires { ⌜ length (now memory) ≡ 5805 ⌝ ∗ ⌜ k < 9 ⌝ ∗ ⌜ valueOr msg3 1 ≤ 645 ⌝ ∗ ⌜ g .size ≤ 645 ⌝ }
+    requires { ⌜ length (now memory) ≡ 5805 ⌝ ∗ ⌜ k < 9 ⌝ ∗ ⌜ g .size ≤ 645 ⌝ }
+    requires { ⌜ 1 ≤ valueOr msg3 1 ⌝ ∗ ⌜ valueOr msg3 1 ≤ 645 ⌝ }
+    ensures sized { λ r. ⌜ Fresh-sized (obtained g msg3 (now (memory .entry)) (offers (now (source .entry)))) ⌝ }
     ensures packet { λ r. ⌜ r ≡ new-packet (obtained g msg3 (now (memory .entry)) (offers (now (source .entry)))) ⌝ }
     ensures memory { λ r. ⌜ now (memory .exit) ≡ with-fresh (now (memory .entry)) k (obtained g msg3 (now (memory .entry)) (offers (now (source .entry)))) ⌝ }
     ensures source { λ r. ⌜ now (source .exit) ≡ source-after offers used (now (source .entry)) (asked-by (msg3-taken (g .reception) msg3) (g .size)) ⌝ }
@@ -90,7 +93,7 @@ pub(crate) fn obtain<S: Source>(memory: &mut [u8], source: &mut S, k: u8, msg3: 
 
 // The radio reads the packet of process `k` from the middle of packet memory.
 pub(crate) fn send_packet<R: Radio>(memory: &[u8], radio: &mut R, clock: u64, k: u8, p: Process)
-    requires { ⌜ length (now memory) ≡ 5805 ⌝ ∗ ⌜ k < 9 ⌝ ∗ ⌜ Loaded p ⌝ ∗ ⌜ has-room (radioed (now radio)) ≡ true ⌝ }
+    requires { ⌜ length (now memory) ≡ 5805 ⌝ ∗ ⌜ k < 9 ⌝ ∗ ⌜ 1 ≤ valueOr (p .buffer) 0 ⌝ ∗ ⌜ valueOr (p .buffer) 0 ≤ 645 ⌝ ∗ ⌜ has-room (radioed (now radio)) ≡ true ⌝ }
     ensures radio { λ _. ⌜ radioed (now (radio .exit)) ≡ took (radioed (now (radio .entry))) (sending-by clock k (now (memory .entry)) p) ⌝ }
     ensures lender { λ _. ⌜ lender (now (radio .exit)) ≡ lender (now (radio .entry)) ⌝ }
 {

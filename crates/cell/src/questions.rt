@@ -1,5 +1,6 @@
-// The questions of a subframe call, in their order.
+// The questions of the calls, in their order.
 ghost use mathlib.Core.Path.{_≡_};
+ghost use Rattle.rules.specs.Setup.{first-no, is-plain, set-up-questions};
 ghost use Rattle.rules.specs.Questions.{answer-due, is-bundled, kind-allowed, fields-by-kind, fields-hold, grant-wants-new, questioned, asked-of-grant};
 
 use crate::entity::fetch;
@@ -124,4 +125,29 @@ pub(crate) fn ask(setup: Setup, state: &State, memory: usize, ready: bool, gap: 
         return Err(Refusal::NoAnswerDue);
     }
     ask_of_grant(setup, state, grant)
+}
+
+// The questions of set-up after its first, which asks for the kind.
+pub(crate) fn ask_of_setup(setup: Setup) -> Result<(), Refusal>
+    ensures { λ r. ⌜ r ≡ first-no (set-up-questions setup) ⌝ }
+{
+    if setup.max_harq_tx < 1 || setup.max_harq_tx > 28 || setup.max_harq_msg3_tx < 1 || setup.max_harq_msg3_tx > 8 {
+        return Err(Refusal::Maximum);
+    }
+    if setup.interval != 0 && (setup.interval > 640 || !is_plain(setup.kind)) {
+        return Err(Refusal::Interval);
+    }
+    if setup.start >= 0x1_0000_0000_0000 {
+        return Err(Refusal::Start);
+    }
+    Ok(())
+}
+
+fn is_plain(kind: CellKind) -> bool
+    ensures { λ r. ⌜ r ≡ is-plain kind ⌝ }
+{
+    match kind {
+        CellKind::Plain => true,
+        CellKind::Bundled | CellKind::Asynchronous => false,
+    }
 }

@@ -9,7 +9,7 @@ ghost use Rattle.ports.specs.Source.{source-after};
 ghost use Rattle.rules.specs.Entity.{course, asked, work-of, memory-after};
 ghost use Rattle.rules.specs.Subframe.{outcome-of, attempted, concluded, sending, sending-if, sending-by, repetition-by, repetition-after, finished, heard};
 ghost use Rattle.rules.specs.Process.{on-air};
-ghost use Rattle.cell.specs.Effects.{Sized, Loaded, Able};
+ghost use Rattle.rules.specs.Invariant.{Sane, Obtains, Loaded, Loaded-work};
 
 use crate::entity::fetch;
 use crate::entity::identify_answered;
@@ -53,7 +53,9 @@ pub(crate) fn take_answer(setup: Setup, state: &mut State, gap: bool, answer: Op
 
 // Carries a decision out, up to the sending: a new transmission first obtains its packet.
 pub(crate) fn begin<S: Source>(setup: Setup, memory: &mut [u8], source: &mut S, k: u8, msg3: Option<u16>, p: Process, decision: Decision) -> Work
-    requires { ⌜ length (now memory) ≡ 5805 ⌝ ∗ ⌜ k < 9 ⌝ ∗ ⌜ valueOr msg3 1 ≤ 645 ⌝ ∗ ⌜ p .«current_tx_nb» < 255 ⌝ ∗ ⌜ Sized decision ⌝ }
+    requires { ⌜ length (now memory) ≡ 5805 ⌝ ∗ ⌜ k < 9 ⌝ ∗ ⌜ p .«current_tx_nb» < 255 ⌝ ∗ ⌜ Sane p decision ⌝ }
+    requires { ⌜ 1 ≤ valueOr msg3 1 ⌝ ∗ ⌜ valueOr msg3 1 ≤ 645 ⌝ }
+    ensures obtains { λ r. ⌜ Obtains decision msg3 (now (memory .entry)) (offers (now (source .entry))) ⌝ }
     ensures work { λ r. ⌜ r ≡ work-of (course setup decision msg3 (now (memory .entry)) (offers (now (source .entry))) p) ⌝ }
     ensures memory { λ r. ⌜ now (memory .exit) ≡ memory-after (now (memory .entry)) k (course setup decision msg3 (now (memory .entry)) (offers (now (source .entry))) p) ⌝ }
     ensures source { λ r. ⌜ now (source .exit) ≡ source-after offers used (now (source .entry)) (asked decision msg3) ⌝ }
@@ -81,7 +83,7 @@ fn outcome(acked: bool, sent: bool) -> Outcome
 
 // A transmission goes on the air, if nothing keeps it back, and counts against the maximum either way.
 fn attempt<R: Radio>(setup: Setup, clock: u64, memory: &[u8], radio: &mut R, k: u8, gap: bool, new: bool, acked: bool, p: Process) -> Conclusion
-    requires { ⌜ length (now memory) ≡ 5805 ⌝ ∗ ⌜ k < 9 ⌝ ∗ ⌜ Loaded p ⌝ ∗ ⌜ has-room (radioed (now radio)) ≡ true ⌝ }
+    requires { ⌜ length (now memory) ≡ 5805 ⌝ ∗ ⌜ k < 9 ⌝ ∗ ⌜ Loaded setup p ⌝ ∗ ⌜ has-room (radioed (now radio)) ≡ true ⌝ }
     ensures conclusion { λ r. ⌜ r ≡ attempted setup k gap new acked p ⌝ }
     ensures radio { λ r. ⌜ radioed (now (radio .exit)) ≡ told (radioed (now (radio .entry))) (sending-if (on-air acked gap p) (sending-by clock k (now (memory .entry)) p)) ⌝ }
     ensures lender { λ r. ⌜ lender (now (radio .exit)) ≡ lender (now (radio .entry)) ⌝ }
@@ -105,7 +107,7 @@ fn attempt<R: Radio>(setup: Setup, clock: u64, memory: &[u8], radio: &mut R, k: 
 
 // Does the work of a subframe.
 pub(crate) fn conclude<R: Radio>(setup: Setup, clock: u64, memory: &[u8], radio: &mut R, k: u8, gap: bool, work: Work) -> Conclusion
-    requires { ⌜ length (now memory) ≡ 5805 ⌝ ∗ ⌜ k < 9 ⌝ ∗ ⌜ Able work ⌝ ∗ ⌜ has-room (radioed (now radio)) ≡ true ⌝ }
+    requires { ⌜ length (now memory) ≡ 5805 ⌝ ∗ ⌜ k < 9 ⌝ ∗ ⌜ Loaded-work setup work ⌝ ∗ ⌜ has-room (radioed (now radio)) ≡ true ⌝ }
     ensures conclusion { λ r. ⌜ r ≡ concluded setup k gap work ⌝ }
     ensures radio { λ r. ⌜ radioed (now (radio .exit)) ≡ told (radioed (now (radio .entry))) (sending clock k (now (memory .entry)) gap work) ⌝ }
     ensures lender { λ r. ⌜ lender (now (radio .exit)) ≡ lender (now (radio .entry)) ⌝ }

@@ -6,3 +6,4 @@ pub mod Setup
 pub mod Questions
 pub mod Subframe
 pub mod Worked
+pub mod Invariant

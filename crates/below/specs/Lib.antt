@@ -1,0 +1,4 @@
+pub mod Mailbox
+pub mod Book
+pub mod Pattern
+pub mod Stretch
