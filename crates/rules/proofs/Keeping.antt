@@ -6,8 +6,7 @@ use mathlib.Core.List.{List, [], _∷_}
 use mathlib.Core.Logic.{_⊎_, inl, inr, ⊎-elim}
 use native.Mathlib.Omega.{arith}
 use lib.Dec.{leb, ltb, eqb}
-use lib.ListN.{length, getD, set, replicate, length-set}
-use Rattle.std.proofs.shelf.Lists.{getD-past}
+use lib.ListN.{length, getD, set, replicate}
 use Rattle.std.proofs.shelf.Tests.{eqb-true, ltb-true}
 use Rattle.std.specs.Options.{isSome, valueOr}
 use Rattle.std.specs.declared.option.Option.{Option}
@@ -253,26 +252,21 @@ good-set su ps i k q h g =
     let P : Process → Type 0 = λ p. Good su p in
     ⊎-elim (λ e. subst P (sym e) h) (λ e. subst P (sym e) g) (either ps i k q)
 
-pub good-at : (su : Setup) (st : State) (k : ℕ) → Sound su st → Good su (process-at (st .processes) k)
-good-at su st k h = ⊎-elim (λ l. h .good k l) (λ l. let P : Process → Type 0 = λ p. Good su p in subst P (sym (getD-past (st .processes) k idle (omega (arith, h .eight)))) (good-idle su)) (order k)
-  where
-    order : (k : ℕ) → (k < 8) ⊎ (8 ≤ k)
-    order k = search arith
-
 -- the answer
-heard-length : (o : Option ℕ) (gap : Bool) (a : Option Feedback) (ps : List Process) → length (heard-at o gap a ps) ≡ length ps
-heard-length None gap a ps = refl
-heard-length (Some k) gap a ps = length-set ps k (hears gap a (process-at ps k))
+answering-below : (kind : CellKind) (t : ℕ) → Below-8 (answering kind t)
+answering-below Plain t = below-if (leb 4 t) ((t - 4) % 8) (omega arith)
+answering-below Bundled t = below-if (leb 4 t && eqb (t % 4) 3) ((t - 4) % 16 / 4) (omega arith)
+answering-below Asynchronous t = tt
 
-good-heard : (su : Setup) (st : State) (o : Option ℕ) (gap : Bool) (a : Option Feedback) (k : ℕ) → k < 8 → Sound su st → Good su (process-at (heard-at o gap a (st .processes)) k)
-good-heard su st None gap a k l h = h .good k l
-good-heard su st (Some j) gap a k l h = good-set su (st .processes) j k _ (good-hears su (process-at (st .processes) j) gap a (good-at su st j h)) (h .good k l)
+good-heard : (su : Setup) (st : State) (o : Option ℕ) (gap : Bool) (a : Option Feedback) (k : ℕ) → Below-8 o → k < 8 → Sound su st → Good su (process-at (heard-at o gap a (st .processes)) k)
+good-heard su st None gap a k b l h = h .good k l
+good-heard su st (Some j) gap a k b l h = good-set su (st .processes) j k _ (good-hears su (process-at (st .processes) j) gap a (h .good j b)) (h .good k l)
 
 pub sound-heard : (su : Setup) (st : State) (gap : Bool) (a : Option Feedback) → Sound su st → Sound su (heard su st gap a)
 sound-heard su st gap a h = record {
-    bounds = h .bounds; eight = heard-length (answering (su .kind) (st .clock)) gap a (st .processes) ∙ h .eight;
+    bounds = h .bounds;
     packets = h .packets; sendings = h .sendings; smallest = h .smallest; largest = h .largest; shortest = h .shortest; longest = h .longest; repeats = h .repeats;
-    good = λ k l. good-heard su st (answering (su .kind) (st .clock)) gap a k l h
+    good = λ k l. good-heard su st (answering (su .kind) (st .clock)) gap a k (answering-below (su .kind) (st .clock)) l h
   }
 
 -- the stored grant
@@ -290,7 +284,7 @@ stored-sized su t c (Some g) h f = stored-if (activates g) _ _ (size-of-fields s
 pub sound-stored : (su : Setup) (st : State) (t : ℕ) (g : Option Grant) → Sound su st → Fields su g → Sound su (with-configured st (stored-after t (st .configured) g))
 sound-stored su st t g h f =
     let z = stored-sized su t (st .configured) g (h .smallest, h .largest) f in
-    record { bounds = h .bounds; eight = h .eight; packets = h .packets; sendings = h .sendings; smallest = z .0; largest = z .1; shortest = h .shortest; longest = h .longest; repeats = h .repeats; good = h .good }
+    record { bounds = h .bounds; packets = h .packets; sendings = h .sendings; smallest = z .0; largest = z .1; shortest = h .shortest; longest = h .longest; repeats = h .repeats; good = h .good }
 
 -- the decision
 sane-granted : (g : GrantInForce) (p : Process) (new spared held : Bool) → held ≡ holds-packet p → (spared ≡ true → holds-packet p ≡ true) → Sized-grant (Some g) → Sane p (decided-by g new spared held)
@@ -331,7 +325,7 @@ at-most false m n h = omega arith
 
 pub sound-finished : (su : Setup) (st : State) (k : ℕ) (r : Option Repetition) (c : Conclusion) → Sound su st → Good su (c .process) → repeated-process r < 8 → Sound su (finished st k r c)
 sound-finished su st k r c h g z = record {
-    bounds = h .bounds; eight = length-set (st .processes) k (c .process) ∙ h .eight;
+    bounds = h .bounds;
     packets = at-most (c .begun) (st .tally .packets) (st .clock) (h .packets);
     sendings = at-most (c .sent) (st .tally .sendings) (st .clock) (h .sendings);
     smallest = h .smallest; largest = h .largest; shortest = h .shortest; longest = h .longest; repeats = z;
@@ -339,7 +333,7 @@ sound-finished su st k r c h g z = record {
   }
 
 pub sound-moved : (su : Setup) (st : State) → Sound su st → Sound su (clock-moved st)
-sound-moved su st h = record { bounds = h .bounds; eight = h .eight; packets = omega (arith, h .packets); sendings = omega (arith, h .sendings); smallest = h .smallest; largest = h .largest; shortest = h .shortest; longest = h .longest; repeats = h .repeats; good = h .good }
+sound-moved su st h = record { bounds = h .bounds; packets = omega (arith, h .packets); sendings = omega (arith, h .sendings); smallest = h .smallest; largest = h .largest; shortest = h .shortest; longest = h .longest; repeats = h .repeats; good = h .good }
 
 repeated-by : (kind : CellKind) (t : ℕ) (g : Option GrantInForce) (r : Option Repetition) → Named-below kind g → repeated-process r < 8 → repeated-process (repetition-by kind t g r) < 8
 repeated-by Plain t g r n h = h
@@ -390,6 +384,14 @@ idle-at k = blanks 8 k
 
 pub sound-fresh : (su : Setup) (t : ℕ) → Bounds su → Sound su (fresh-state t)
 sound-fresh su t b = record {
-    bounds = b; eight = refl; packets = omega arith; sendings = omega arith; smallest = omega arith; largest = omega arith; shortest = omega arith; longest = omega arith; repeats = omega arith;
+    bounds = b; packets = omega arith; sendings = omega arith; smallest = omega arith; largest = omega arith; shortest = omega arith; longest = omega arith; repeats = omega arith;
     good = λ k l. let P : Process → Type 0 = λ p. Good su p in subst P (sym (idle-at k)) (good-idle su)
   }
+
+-- what the questions of set-up have settled
+pub bounds-asked : (su : Setup) → Ok tt ≡ first-no (set-up-questions su) → Bounds su
+bounds-asked su e =
+    let m = first (within 1 28 (su .«max_harq_tx») && within 1 8 (su .«max_harq_msg3_tx»)) _ _ e in
+    let tx = and-left (within 1 28 (su .«max_harq_tx»)) (within 1 8 (su .«max_harq_msg3_tx»)) m in
+    let tx3 = and-right (within 1 28 (su .«max_harq_tx»)) (within 1 8 (su .«max_harq_msg3_tx»)) m in
+    record { least = le-of (and-left (leb 1 (su .«max_harq_tx»)) _ tx); most = le-of (and-right (leb 1 (su .«max_harq_tx»)) _ tx); least3 = le-of (and-left (leb 1 (su .«max_harq_msg3_tx»)) _ tx3); most3 = le-of (and-right (leb 1 (su .«max_harq_msg3_tx»)) _ tx3) }

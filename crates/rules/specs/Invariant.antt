@@ -74,7 +74,6 @@ pub record Bounds (su : Setup) : Type 0 where
 
 pub record Sound (su : Setup) (st : State) : Type 0 where
   pub bounds : Bounds su
-  pub eight : length (st .processes) ≡ 8
   pub packets : st .tally .packets ≤ st .clock
   pub sendings : st .tally .sendings ≤ st .clock
   pub smallest : 1 ≤ stored-size (st .configured)

@@ -67,3 +67,67 @@ fn turn<R: Radio, S: Source>(setup: Setup, state: &mut State, memory: &mut [u8],
     finish(state, k, repetition, conclusion);
     conclusion.reply
 }
+
+impl Cell {
+    // Sets a cell up, or refuses by the first question that is answered no.
+    pub fn set_up(kind: u8, max_harq_tx: u8, max_harq_msg3_tx: u8, interval: u16, start: u64) -> Result<Cell, Refusal>
+        ensures { λ r. ⌜ parts r ≡ with-fresh-state (set-up kind «max_harq_tx» «max_harq_msg3_tx» interval start) ⌝ }
+    {
+        let Some(kind) = CellKind::from_number(kind) else {
+            return Err(Refusal::CellKind);
+        };
+        let setup = Setup {
+            kind,
+            max_harq_tx,
+            max_harq_msg3_tx,
+            interval,
+            start,
+        };
+        ask_of_setup(setup)?;
+        let state = State {
+            processes: [IDLE; 8],
+            configured: None,
+            repetition: None,
+            msg3: None,
+            tally: Tally {
+                packets: 0,
+                sendings: 0,
+            },
+            clock: start,
+        };
+        Ok(Cell { setup, state })
+    }
+
+    // The subframe that comes next: an answer and a grant, if they came, over the radio, the source and the gap plan that stand below.
+    pub fn subframe<R: Radio, S: Source, G: GapPlan>(&mut self, memory: &mut [u8], radio: &mut R, source: &mut S, gaps: &G, answer: Option<Feedback>, grant: Option<Grant>) -> Result<Reply, Refusal>
+        ensures whole { λ r. ⌜ record { answer = r; state = now (self .exit) .state; memory = now (memory .exit); radio = radioed (now (radio .exit)); source = now (source .exit) } ≡ after-subframe offers used (now (self .entry) .setup) (now (self .entry) .state) (now (memory .entry)) (radioed (now (radio .entry))) (now (source .entry)) (covered (now (gaps .entry)) (now (self .entry) .state .clock)) answer grant ⌝ }
+        ensures setup { λ r. ⌜ now (self .exit) .setup ≡ now (self .entry) .setup ⌝ }
+        ensures lender { λ r. ⌜ lender (now (radio .exit)) ≡ lender (now (radio .entry)) ⌝ }
+    {
+        let clock = self.state.clock;
+        let gap = gaps.covers(clock);
+        ask(self.setup, &self.state, memory.len(), radio.ready(), gap, answer, grant)?;
+        take_answer(self.setup, &mut self.state, gap, answer);
+        let g = force(self.setup, clock, self.state.configured, grant);
+        self.state.configured = store(clock, self.state.configured, grant);
+        let Some(k) = identify(self.setup.kind, clock, g, self.state.repetition) else {
+            self.state.clock += 1;
+            return Ok(NO_PROCESS);
+        };
+        Ok(turn(self.setup, &mut self.state, memory, radio, source, gap, g, k))
+    }
+
+    // Packets begun and sendings made since set-up.
+    pub fn tally(&self) -> Tally
+        ensures { λ r. ⌜ r ≡ now (self .entry) .state .tally ⌝ }
+    {
+        self.state.tally
+    }
+
+    // The subframe that comes next.
+    pub fn clock(&self) -> u64
+        ensures { λ r. ⌜ r ≡ now (self .entry) .state .clock ⌝ }
+    {
+        self.state.clock
+    }
+}
