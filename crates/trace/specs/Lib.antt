@@ -1,0 +1,4 @@
+pub mod Standing
+pub mod Texts
+pub mod Answers
+pub mod Sessions
