@@ -13,7 +13,7 @@ use Rattle.std.specs.declared.option.Option.the-variants.{Some, None}
 use Rattle.terms.specs.declared.grant.GrantInForce.{GrantInForce}
 use Rattle.rules.specs.Memory.{part, written}
 use Rattle.terms.specs.declared.decision.NewPacket.{NewPacket}
-use Rattle.ports.specs.Source.{source-after}
+use Rattle.ports.specs.Source.{Fits-asked, source-after}
 use Rattle.rules.specs.Entity.{Fresh, obtained, obtained-by, msg3-taken, asked-by}
 use Rattle.rules.specs.Invariant.{Fresh-sized}
 use Rattle.cell.specs.Effects.{new-packet, with-packet, with-fresh}
@@ -52,3 +52,6 @@ module _ (g : GrantInForce) (msg3 : Option ℕ) (m : List ℕ) (offers : ℕ →
 
 pub msg3-source : {S : Type 0} (offers : S → ℕ → Option (List ℕ)) (used : S → ℕ → S) (s : S) (o : Option ℕ) (n size : ℕ) → Some n ≡ o → s ≡ source-after offers used s (asked-by o size)
 msg3-source offers used s o n size e = ap (λ o. source-after offers used s (asked-by o size)) e
+
+pub msg3-fits : (offers : ℕ → Option (List ℕ)) (o : Option ℕ) (n size : ℕ) → Some n ≡ o → Fits-asked offers (asked-by o size)
+msg3-fits offers o n size e = let P : Option ℕ → Type 0 = λ o. Fits-asked offers (asked-by o size) in subst P e tt

@@ -1,3 +1,4 @@
 pub mod Effects
 pub mod Calls
+pub mod Promises
 pub mod Cells

@@ -6,7 +6,7 @@ ghost use lib.ListN.{length, take};
 ghost use Rattle.std.specs.Options.{isSome, valueOr};
 ghost use Rattle.std.specs.declared.option.Option.the-variants.{Some};
 ghost use Rattle.ports.specs.Radio.{has-room, took};
-ghost use Rattle.ports.specs.Source.{Fits-size, source-after};
+ghost use Rattle.ports.specs.Source.{Fits-size, Fits-asked, source-after};
 ghost use Rattle.rules.specs.Memory.{part, written};
 ghost use Rattle.rules.specs.Entity.{msg3-taken, asked-by, obtained};
 ghost use Rattle.rules.specs.Subframe.{sending-by};
@@ -77,6 +77,7 @@ pub(crate) fn obtain<S: Source>(memory: &mut [u8], source: &mut S, k: u8, msg3: 
     requires { ⌜ length (now memory) ≡ 5805 ⌝ ∗ ⌜ k < 9 ⌝ ∗ ⌜ g .size ≤ 645 ⌝ }
     requires { ⌜ 1 ≤ valueOr msg3 1 ⌝ ∗ ⌜ valueOr msg3 1 ≤ 645 ⌝ }
     ensures sized { λ r. ⌜ Fresh-sized (obtained g msg3 (now (memory .entry)) (offers (now (source .entry)))) ⌝ }
+    ensures fits { λ r. ⌜ Fits-asked (offers (now (source .entry))) (asked-by (msg3-taken (g .reception) msg3) (g .size)) ⌝ }
     ensures packet { λ r. ⌜ r ≡ new-packet (obtained g msg3 (now (memory .entry)) (offers (now (source .entry)))) ⌝ }
     ensures memory { λ r. ⌜ now (memory .exit) ≡ with-fresh (now (memory .entry)) k (obtained g msg3 (now (memory .entry)) (offers (now (source .entry)))) ⌝ }
     ensures source { λ r. ⌜ now (source .exit) ≡ source-after offers used (now (source .entry)) (asked-by (msg3-taken (g .reception) msg3) (g .size)) ⌝ }

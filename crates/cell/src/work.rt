@@ -5,7 +5,7 @@ ghost use Prim.Native.Nat.{_<_, _≤_, _^_};
 ghost use lib.ListN.{length};
 ghost use Rattle.std.specs.Options.{valueOr};
 ghost use Rattle.ports.specs.Radio.{has-room, told};
-ghost use Rattle.ports.specs.Source.{source-after};
+ghost use Rattle.ports.specs.Source.{Fits-asked, source-after};
 ghost use Rattle.rules.specs.Entity.{course, asked, work-of, memory-after};
 ghost use Rattle.rules.specs.Subframe.{outcome-of, attempted, concluded, sending, sending-if, sending-by, repetition-by, repetition-after, finished, heard};
 ghost use Rattle.rules.specs.Process.{on-air};
@@ -56,6 +56,7 @@ pub(crate) fn begin<S: Source>(setup: Setup, memory: &mut [u8], source: &mut S, 
     requires { ⌜ length (now memory) ≡ 5805 ⌝ ∗ ⌜ k < 9 ⌝ ∗ ⌜ p .«current_tx_nb» < 255 ⌝ ∗ ⌜ Sane p decision ⌝ }
     requires { ⌜ 1 ≤ valueOr msg3 1 ⌝ ∗ ⌜ valueOr msg3 1 ≤ 645 ⌝ }
     ensures obtains { λ r. ⌜ Obtains decision msg3 (now (memory .entry)) (offers (now (source .entry))) ⌝ }
+    ensures fits { λ r. ⌜ Fits-asked (offers (now (source .entry))) (asked decision msg3) ⌝ }
     ensures work { λ r. ⌜ r ≡ work-of (course setup decision msg3 (now (memory .entry)) (offers (now (source .entry))) p) ⌝ }
     ensures memory { λ r. ⌜ now (memory .exit) ≡ memory-after (now (memory .entry)) k (course setup decision msg3 (now (memory .entry)) (offers (now (source .entry))) p) ⌝ }
     ensures source { λ r. ⌜ now (source .exit) ≡ source-after offers used (now (source .entry)) (asked decision msg3) ⌝ }

@@ -17,3 +17,8 @@ Fits-size n (Some p) = (1 ≤ n) × (n ≤ 645) × (length p ≡ n)
 abbrev pub source-after : {S : Type 0} → (S → ℕ → Option (List ℕ)) → (S → ℕ → S) → S → Option ℕ → S
 source-after offers used s None = s
 source-after offers used s (Some n) = cond (isSome (offers s n)) (used s n) s
+
+-- what a source offers for the size that it is asked for, if it is asked, fits
+abbrev pub Fits-asked : (ℕ → Option (List ℕ)) → Option ℕ → Type 0
+Fits-asked offers None = Unit {0}
+Fits-asked offers (Some n) = Fits-size n (offers n)

@@ -5,5 +5,6 @@ pub mod Entity
 pub mod Setup
 pub mod Questions
 pub mod Subframe
+pub mod Msg3
 pub mod Worked
 pub mod Invariant

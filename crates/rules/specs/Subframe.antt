@@ -63,6 +63,8 @@ pub data Event : Type 0 where
   sends : Sending → Event
   -- a packet's transmissions are used up: process, subframe
   flushes : ℕ → ℕ → Event
+  -- a packet is deposited in the Msg3 buffer
+  deposits : List ℕ → Event
 
 pub record Done : Type 0 where
   pub reply : Reply
@@ -101,7 +103,7 @@ attempted su k gap new acked p = record {
   process = transmitted su (on-air acked gap p) p;
   reply = record { outcome = outcome-of acked (on-air acked gap p); process = k; version = version-told (on-air acked gap p) p; «given_up» = gives-up su p };
   begun = new;
-  sent = on-air acked gap p
+  sent = on-air acked gap p;
 }
 
 abbrev pub concluded : Setup → ℕ → Bool → Work → Conclusion
@@ -146,7 +148,7 @@ finished st k r c = record {
   repetition = r;
   msg3 = st .msg3;
   tally = record { packets = st .tally .packets + one-if (c .begun); sendings = st .tally .sendings + one-if (c .sent) };
-  clock = st .clock + 1
+  clock = st .clock + 1;
 }
 
 abbrev pub with-configured : State → Option ConfiguredGrant → State
@@ -205,7 +207,7 @@ process-done su st m gap offers g k =
       memory = m1;
       asked = asked d (st .msg3);
       sending = x;
-      events = process-events k (st .clock) g gap c x (e .reply .«given_up»)
+      events = process-events k (st .clock) g gap c x (e .reply .«given_up»);
     }
 
 -- a subframe with no process, in an asynchronous cell

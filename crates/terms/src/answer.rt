@@ -1,7 +1,6 @@
 // What the calls answer, and the number of each answer.
 ghost use mathlib.Core.Path.{_≡_};
 ghost use Rattle.terms.specs.Numbers.{outcome-number, refusal-number};
-
 use crate::version::RedundancyVersion;
 use crate::version::RedundancyVersionDebug;
 use crate::version::RedundancyVersionPartialEq;
@@ -67,6 +66,10 @@ pub enum Refusal {
     RepetitionRuns,
     OffBundle,
     NewTransmissionMcs,
+    // Msg3 deposit and withdrawal
+    PacketLength,
+    Msg3Held,
+    Msg3Empty,
     // a line of a trace
     NotHexadecimal,
     NotFrame,
@@ -91,6 +94,9 @@ impl Refusal {
             Refusal::RepetitionRuns => 10,
             Refusal::OffBundle => 11,
             Refusal::NewTransmissionMcs => 12,
+            Refusal::PacketLength => 13,
+            Refusal::Msg3Held => 14,
+            Refusal::Msg3Empty => 15,
             Refusal::NotHexadecimal => 16,
             Refusal::NotFrame => 17,
             Refusal::GapPattern => 19,

@@ -3,10 +3,13 @@ ghost use mathlib.Core.Bool.{true};
 ghost use Prim.Native.Nat.{_<_, _^_};
 ghost use lib.ListN.{length};
 ghost use Rattle.ports.specs.Radio.{has-room};
+ghost use Rattle.ports.specs.Source.{Fits-asked};
 ghost use Rattle.rules.specs.Setup.{set-up};
 ghost use Rattle.rules.specs.Subframe.{process-done};
 ghost use Rattle.rules.specs.Invariant.{Sound, Sized-grant, Named-below};
+ghost use Rattle.runs.specs.Promise.{Keeps-promise};
 ghost use Rattle.cell.specs.Calls.{after-done, after-subframe};
+ghost use Rattle.cell.specs.Promises.{world, subframe-over, latest-after};
 ghost use Rattle.cell.specs.Cells.{parts, with-fresh-state};
 
 use crate::cell::Cell;
@@ -56,6 +59,7 @@ fn turn<R: Radio, S: Source>(setup: Setup, state: &mut State, memory: &mut [u8],
     requires room { ⌜ has-room (radioed (now radio)) ≡ true ⌝ }
     ensures whole { λ r. ⌜ record { answer = r; state = now (state .exit); memory = now (memory .exit); radio = radioed (now (radio .exit)); source = now (source .exit) } ≡ after-done offers used (radioed (now (radio .entry))) (now (source .entry)) (process-done setup (now (state .entry)) (now (memory .entry)) gap (offers (now (source .entry))) g k .reply) (process-done setup (now (state .entry)) (now (memory .entry)) gap (offers (now (source .entry))) g k) ⌝ }
     ensures sound { λ r. ⌜ Sound setup (now (state .exit)) ⌝ }
+    ensures fits { λ r. ⌜ Fits-asked (offers (now (source .entry))) (process-done setup (now (state .entry)) (now (memory .entry)) gap (offers (now (source .entry))) g k .asked) ⌝ }
     ensures lender { λ r. ⌜ lender (now (radio .exit)) ≡ lender (now (radio .entry)) ⌝ }
 {
     let clock = state.clock;
@@ -102,6 +106,8 @@ impl Cell {
     pub fn subframe<R: Radio, S: Source, G: GapPlan>(&mut self, memory: &mut [u8], radio: &mut R, source: &mut S, gaps: &G, answer: Option<Feedback>, grant: Option<Grant>) -> Result<Reply, Refusal>
         ensures whole { λ r. ⌜ record { answer = r; state = now (self .exit) .state; memory = now (memory .exit); radio = radioed (now (radio .exit)); source = now (source .exit) } ≡ after-subframe offers used (now (self .entry) .setup) (now (self .entry) .state) (now (memory .entry)) (radioed (now (radio .entry))) (now (source .entry)) (covered (now (gaps .entry)) (now (self .entry) .state .clock)) answer grant ⌝ }
         ensures setup { λ r. ⌜ now (self .exit) .setup ≡ now (self .entry) .setup ⌝ }
+        ensures promise { λ r. ⌜ Keeps-promise (now (self .entry) .setup) (world (now (self .entry) .state) (now (memory .entry)) (radioed (now (radio .entry)) .count)) (subframe-over answer grant (covered (now (gaps .entry))) (offers (now (source .entry))) (radioed (now (radio .entry)))) (world (now (self .exit) .state) (now (memory .exit)) (radioed (now (radio .exit)) .count)) ⌝ }
+        ensures latest { λ r. ⌜ radioed (now (radio .exit)) .latest ≡ latest-after (now (self .entry) .setup) (world (now (self .entry) .state) (now (memory .entry)) (radioed (now (radio .entry)) .count)) (subframe-over answer grant (covered (now (gaps .entry))) (offers (now (source .entry))) (radioed (now (radio .entry)))) (radioed (now (radio .entry)) .latest) ⌝ }
         ensures lender { λ r. ⌜ lender (now (radio .exit)) ≡ lender (now (radio .entry)) ⌝ }
     {
         let clock = self.state.clock;

@@ -13,6 +13,7 @@ conclude-conclusion-requires g c κs =
 pub returns : need.returns
 returns g c = record {
   whole = search needs;
+  fits = search needs;
   sound = sound-turn (c .args .setup) (c .args .state .now) (c .args .memory .now) (g .S·Source .offers (c .args .source .now)) (c .args .g) (c .args .k) (c .pre .sound) (c .pre .sized) (omega arith)
     (c .args .gap) (c .begin-work .result) (c .conclude-conclusion .result) (c .rerun-repetition .result) (c .finish .last .state) (c .pre .named)
     (loaded-turn (c .args .setup) (c .args .state .now) (c .args .memory .now) (g .S·Source .offers (c .args .source .now)) (c .args .g) (c .args .k) (c .pre .sound) (c .pre .sized) (omega arith)

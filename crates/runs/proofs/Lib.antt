@@ -1,0 +1,12 @@
+pub mod Memory
+pub mod Timing
+pub mod Amends
+pub mod Life
+pub mod Questions
+pub mod Tied
+pub mod Follow
+pub mod Sound
+pub mod Runs
+pub mod Main
+pub mod Examples
+pub mod Offers

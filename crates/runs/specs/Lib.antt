@@ -1,0 +1,4 @@
+pub mod Runs
+pub mod Stays
+pub mod Promise
+pub mod Examples
