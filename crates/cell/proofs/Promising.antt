@@ -22,14 +22,16 @@ use Rattle.ports.specs.Source.{Fits-size, Fits-asked}
 use Rattle.rules.specs.Reception.{grant-in-force, stored-after}
 use Rattle.rules.specs.Entity.{process-of, answering, Course, rests, begins, again}
 use Rattle.rules.specs.Questions.{questioned}
-use Rattle.rules.specs.Subframe.{Given, Done, Event, heard, with-configured, process-events, answer-events, turn-done, subframe-done, unless-refused, subframe}
-use Rattle.rules.specs.Msg3.{Left, deposit, withdrawal}
+use Rattle.rules.specs.Subframe.{Given, Done, Event, deposits, heard, with-configured, process-events, answer-events, turn-done, subframe-done, unless-refused, subframe}
+use Rattle.rules.specs.Memory.{written}
+use Rattle.rules.specs.Setup.{first-no}
+use Rattle.rules.specs.Msg3.{Left, with-msg3, left-unless-refused, deposit-questions, deposit-done, deposit, withdrawal-questions, withdrawal-done, withdrawal}
 use Rattle.runs.specs.Runs.{World, Call, deposit-call, withdrawal-call, fitting, Step, subframe-step, msg3-step, step-of, step, Past, world-now, Accepted, past-with}
 use Rattle.runs.specs.Promise.{Promise, Keeps-promise}
 use Rattle.runs.proofs.Runs.{world-with}
 use Rattle.runs.proofs.Main.{promise}
 use Rattle.runs.proofs.Offers.{Fits, with-offers, subframe-fitting}
-use Rattle.cell.specs.Calls.{After, after-result, after-subframe}
+use Rattle.cell.specs.Calls.{After, after-result, after-subframe, Filed, after-left, after-deposit, after-withdrawal}
 use Rattle.cell.specs.Promises.{world, subframe-over, latest-sent, latest-after}
 
 -- a call that leaves what a step of the run leaves keeps the promise
@@ -135,3 +137,31 @@ module _ {S : Type 0} (offers : S → ℕ → Option (List ℕ)) (used : S → �
 
     pub refused-whole : _≡_ {A = After S (Result Reply Refusal)} (record { answer = Err e; state = st; memory = m; radio = r; source = s }) (after-subframe offers used su st m r s (gaps (st .clock)) a g)
     refused-whole = ap (λ q. after-result offers used st m r s (unless-refused q (subframe-done su st m asked-for))) no
+
+-- the Msg3 calls
+module _ (su : Setup) (st : State) (m : List ℕ) (n : ℕ) where
+  filed-world : (es : List Event) (l : Result Left Refusal) → let x = after-left st m l in step-of (world st m n) (msg3-step (world st m n) es l) .world ≡ world (x .state) (x .memory) n
+  filed-world es (Ok l) = refl
+  filed-world es (Err e) = refl
+
+  pub deposit-keeps : (b : List ℕ) (x : Filed) → x ≡ after-deposit st m b → Keeps-promise su (world st m n) (deposit-call b) (world (x .state) (x .memory) n)
+  deposit-keeps b x e = keeps su (world st m n) (world (x .state) (x .memory) n) (deposit-call b) (filed-world (deposits b ∷ []) (deposit st m b) ∙ ap (λ z. world (z .state) (z .memory) n) (sym e))
+
+  pub withdrawal-keeps : (x : Filed) → x ≡ after-withdrawal st m → Keeps-promise su (world st m n) withdrawal-call (world (x .state) (x .memory) n)
+  withdrawal-keeps x e = keeps su (world st m n) (world (x .state) (x .memory) n) withdrawal-call (filed-world [] (withdrawal st m) ∙ ap (λ z. world (z .state) (z .memory) n) (sym e))
+
+-- what the questions of the Msg3 calls make of them
+pub deposit-refused : (st : State) (m b : List ℕ) (e : Refusal) → Err e ≡ first-no (deposit-questions (length m) (length b) (st .msg3)) → _≡_ {A = Filed} (record { answer = Err e; state = st; memory = m }) (after-deposit st m b)
+deposit-refused st m b e asked = ap (λ q. after-left st m (left-unless-refused q (deposit-done st m b))) asked
+
+abbrev filed-by : State → List ℕ → List ℕ → Filed
+filed-by st b x = record { answer = Ok tt; state = with-msg3 st (Some (length b)); memory = x }
+
+pub deposit-made : (st : State) (m b m′ : List ℕ) → Ok tt ≡ first-no (deposit-questions (length m) (length b) (st .msg3)) → m′ ≡ written m 8 b → _≡_ {A = Filed} (record { answer = Ok tt; state = with-msg3 st (Some (length b)); memory = m′ }) (after-deposit st m b)
+deposit-made st m b m′ asked e = ap (filed-by st b) e ∙ ap (λ q. after-left st m (left-unless-refused q (deposit-done st m b))) asked
+
+pub withdrawal-refused : (st : State) (m : List ℕ) (e : Refusal) → Err e ≡ first-no (withdrawal-questions (st .msg3)) → _≡_ {A = Filed} (record { answer = Err e; state = st; memory = m }) (after-withdrawal st m)
+withdrawal-refused st m e asked = ap (λ q. after-left st m (left-unless-refused q (withdrawal-done st m))) asked
+
+pub withdrawal-made : (st : State) (m : List ℕ) → Ok tt ≡ first-no (withdrawal-questions (st .msg3)) → _≡_ {A = Filed} (record { answer = Ok tt; state = with-msg3 st None; memory = m }) (after-withdrawal st m)
+withdrawal-made st m asked = ap (λ q. after-left st m (left-unless-refused q (withdrawal-done st m))) asked

@@ -14,6 +14,7 @@ use Rattle.terms.specs.declared.state.State.{State}
 use Rattle.ports.specs.Radio.{Radioed, has-room, told}
 use Rattle.ports.specs.Source.{source-after}
 use Rattle.rules.specs.Subframe.{Done, subframe}
+use Rattle.rules.specs.Msg3.{Left, deposit, withdrawal}
 
 pub record After (S : Type 0) (A : Type 0) : Type 0 where
   pub answer : A
@@ -35,3 +36,21 @@ after-result offers used st m r s (Err e) = record { answer = Err e; state = st;
 abbrev pub after-subframe : {S : Type 0} → (S → ℕ → Option (List ℕ)) → (S → ℕ → S) → Setup → State → List ℕ → Radioed → S → Bool → Option Feedback → Option Grant → After S (Result Reply Refusal)
 after-subframe offers used su st m r s gap a g =
     after-result offers used st m r s (subframe su st m (record { ready = has-room r; gap = gap; answer = a; grant = g; offers = offers s }))
+
+-- what a Msg3 deposit or withdrawal answers and leaves
+pub record Filed : Type 0 where
+  pub answer : Result (Unit {0}) Refusal
+  pub state : State
+  pub memory : List ℕ
+
+-- a refused one leaves everything as it was
+abbrev pub after-left : State → List ℕ → Result Left Refusal → Filed
+after-left st m (Ok l) = record { answer = Ok tt; state = l .state; memory = l .memory }
+after-left st m (Err e) = record { answer = Err e; state = st; memory = m }
+
+-- state, packet memory, the packet
+abbrev pub after-deposit : State → List ℕ → List ℕ → Filed
+after-deposit st m b = after-left st m (deposit st m b)
+
+abbrev pub after-withdrawal : State → List ℕ → Filed
+after-withdrawal st m = after-left st m (withdrawal st m)

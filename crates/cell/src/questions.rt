@@ -1,6 +1,7 @@
 // The questions of the calls, in their order.
 ghost use mathlib.Core.Path.{_≡_};
 ghost use Rattle.rules.specs.Setup.{first-no, is-plain, set-up-questions};
+ghost use Rattle.rules.specs.Msg3.{deposit-questions, withdrawal-questions};
 ghost use Rattle.rules.specs.Questions.{answer-due, is-bundled, kind-allowed, fields-by-kind, fields-hold, grant-wants-new, questioned, asked-of-grant};
 
 use crate::entity::fetch;
@@ -150,4 +151,30 @@ fn is_plain(kind: CellKind) -> bool
         CellKind::Plain => true,
         CellKind::Bundled | CellKind::Asynchronous => false,
     }
+}
+
+// The questions of a Msg3 deposit: lengths of packet memory and of the packet, and of what the Msg3 buffer holds.
+pub(crate) fn ask_of_deposit(memory: usize, packet: usize, msg3: Option<u16>) -> Result<(), Refusal>
+    ensures { λ r. ⌜ r ≡ first-no (deposit-questions memory packet msg3) ⌝ }
+{
+    if memory != 5805 {
+        return Err(Refusal::PacketMemory);
+    }
+    if packet < 1 || packet > 645 {
+        return Err(Refusal::PacketLength);
+    }
+    if msg3.is_some() {
+        return Err(Refusal::Msg3Held);
+    }
+    Ok(())
+}
+
+// The question of a Msg3 withdrawal.
+pub(crate) fn ask_of_withdrawal(msg3: Option<u16>) -> Result<(), Refusal>
+    ensures { λ r. ⌜ r ≡ first-no (withdrawal-questions msg3) ⌝ }
+{
+    if msg3.is_none() {
+        return Err(Refusal::Msg3Empty);
+    }
+    Ok(())
 }

@@ -15,7 +15,7 @@ use Rattle.rules.specs.Entity.{process-at}
 use Rattle.rules.specs.Subframe.{Event, one-if}
 use Rattle.runs.specs.Runs.{World, Call, step, world-after, events-of, Past, set-up-world, world-now, happened, Accepted, past-with}
 use Rattle.runs.specs.Stays.{Met, Stay, Log, recorded-all, empty-log, surroundings, met-after, sent-below, over-below, passing-of-run, passing-of-stays}
-use Rattle.runs.specs.Promise.{stays-of, Counted, Carries, Kept, surroundings-between, Independent, Promise, Keeps-promise}
+use Rattle.runs.specs.Promise.{stays-of, Counted, Carries, Kept, surroundings-between, Independent, All-kept, Promise, Keeps-promise}
 use Rattle.runs.proofs.Life.{Life, life, life-limited, life-carries, ordered-after, Agrees, life-below}
 use Rattle.runs.proofs.Runs.{world-with}
 use Rattle.runs.proofs.Questions.{Ready, ready}
@@ -71,7 +71,7 @@ module _ (p : Past) (accepted : Accepted (p .setup)) where
   pub counted : Counted p
   counted = record { count = sound .0 .count; once = λ f. sound .1 f ∙ zero-add (passing-of-run f (happened p)); tally-sendings = sound .0 .sent; tally-packets = sound .0 .packets }
 
-  pub kept : All (Kept (p .setup)) (stays-of p)
+  pub kept : All-kept p
   kept = all-weaker (Good (p .setup) now) (Kept (p .setup)) each (stays-of p) (sound .0 .good)
     where
       su : Setup

@@ -58,10 +58,3 @@ module _ (m : List ℕ) (k : ℕ) (b : List ℕ) (whole : length m ≡ 5805) (fi
       go : (j < k) ⊎ (k ≤ j) → part (written m k b) j n ≡ part m j n
       go (inl lt) = below-k j n h lt
       go (inr ge) = above-k j n (omega arith)
-
-  pub length-written : length (written m k b) ≡ 5805
-  length-written =
-      let e₁ = length-append (take (645 * k) m) (b ++ drop (645 * k + length b) m) in
-      let e₂ = length-append b (drop (645 * k + length b) m) in
-      let e₃ = length-drop (645 * k + length b) m in
-      omega (arith, head-length, e₁, e₂, e₃)

@@ -38,12 +38,6 @@ Timed kd t ps = (k : ℕ) → k < 8 → process-at ps k .«awaits_answer» ≡ t
 abbrev pub Timed-later : CellKind → ℕ → List Process → Type 0
 Timed-later kd t ps = (k : ℕ) → k < 8 → process-at ps k .«awaits_answer» ≡ true → Later kd t k
 
--- whose answer falls in t
-abbrev pub Answers : CellKind → ℕ → ℕ → Type 0
-Answers Plain t i = (4 ≤ t) × ((t - 4) % 8 ≡ i)
-Answers Bundled t i = (4 ≤ t) × (t % 4 ≡ 3) × (((t - 4) % 16) / 4 ≡ i)
-Answers Asynchronous t i = ⊥
-
 pub answers-below : (kd : CellKind) (t i : ℕ) → answering kd t ≡ Some i → i < 8
 answers-below Plain t i e = go (leb 4 t) e
   where

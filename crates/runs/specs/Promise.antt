@@ -64,22 +64,28 @@ Independent p p′ s s′ =
     → surroundings-between p (s .beginning .process) (s .beginning .first) t ≡ surroundings-between p′ (s .beginning .process) (s .beginning .first) t
     → Alike s s′ t
 
+abbrev pub All-kept : Past → Type 0
+All-kept p = All (Kept (p .setup)) (stays-of p)
+
+-- with the stays of every other past of the same set-up
+abbrev pub All-alike : Past → Type 0
+All-alike p = (p′ : Past) → p′ .setup ≡ p .setup → All (λ (s : Stay). All (Independent p p′ s) (stays-of p′)) (stays-of p)
+
 -- The promise of a past.
 pub record Promise (p : Past) : Type 0 where
   pub counted : Counted p
-  pub kept : All (Kept (p .setup)) (stays-of p)
-  -- with any other past of the same set-up
-  pub alike : (p′ : Past) → p′ .setup ≡ p .setup → All (λ (s : Stay). All (Independent p p′ s) (stays-of p′)) (stays-of p)
+  pub kept : All-kept p
+  pub alike : All-alike p
 
 -- the laws one by one
 abbrev pub Stays-counted : Type 0
 Stays-counted = (p : Past) → Accepted (p .setup) → Counted p
 
 abbrev pub Stays-kept : Type 0
-Stays-kept = (p : Past) → Accepted (p .setup) → All (Kept (p .setup)) (stays-of p)
+Stays-kept = (p : Past) → Accepted (p .setup) → All-kept p
 
 abbrev pub Stays-alike : Type 0
-Stays-alike = (p : Past) → Accepted (p .setup) → (p′ : Past) → p′ .setup ≡ p .setup → All (λ (s : Stay). All (Independent p p′ s) (stays-of p′)) (stays-of p)
+Stays-alike = (p : Past) → Accepted (p .setup) → All-alike p
 
 -- all of them
 abbrev pub Promise-holds : Type 0

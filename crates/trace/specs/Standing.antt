@@ -18,11 +18,12 @@ use Rattle.ports.specs.Radio.{Radioed}
 use Rattle.rules.specs.Setup.{set-up, fresh-state}
 use Rattle.below.specs.Book.{left-offers, left-used}
 use Rattle.below.specs.Pattern.{gaps-of, pattern-set-up}
-use Rattle.cell.specs.Calls.{After, after-subframe}
+use Rattle.cell.specs.Calls.{After, after-subframe, Filed, after-deposit, after-withdrawal}
+use Rattle.hex.specs.Hex.{decoded}
 use Rattle.frames.specs.declared.frame.SetupFrame.{SetupFrame}
 use Rattle.frames.specs.Frames.{Plain, setup, subframe, deposit, withdrawal, packet}
 use Rattle.trace.specs.declared.session.Answer.{Answer}
-use Rattle.trace.specs.declared.session.Answer.the-variants.{Refused, Replied, Packet}
+use Rattle.trace.specs.declared.session.Answer.the-variants.{Refused, Replied, Deposited, Withdrawn, Packet}
 
 -- a cell that was set up, its pattern of measurement gaps, its packet memory, the mailbox, and what is left of the book
 pub record Standing : Type 0 where
@@ -93,11 +94,22 @@ abbrev pub called : Standing → Option Feedback → Option Grant → Answered
 called s a g =
     after-answer s (after-subframe left-offers (λ l n. left-used l) (s .setup) (s .state) (s .memory) (s .radio) (s .left) (gaps-of (s .period) (s .offset) (s .state .clock)) a g)
 
--- what a line is answered, by what it was read as; a second set-up is no frame, nor are deposits and withdrawals in this program
+-- a deposit or withdrawal frame: what it answers where it is accepted
+abbrev pub filed : Answer → Result (Unit {0}) Refusal → Answer
+filed a (Ok u) = a
+filed a (Err e) = Refused e
+
+abbrev pub after-filing : Standing → Answer → Filed → Answered
+after-filing s a x = record {
+  answer = filed a (x .answer);
+  standing = record { setup = s .setup; state = x .state; period = s .period; offset = s .offset; memory = x .memory; radio = s .radio; left = s .left }
+}
+
+-- what a line is answered, by what it was read as; a second set-up is no frame
 abbrev pub answered : Standing → Result Plain Refusal → Answered
 answered s (Err e) = refused e s
 answered s (Ok (setup f)) = refused NotFrame s
 answered s (Ok (subframe a g)) = called s a g
-answered s (Ok (deposit d)) = refused NotFrame s
-answered s (Ok withdrawal) = refused NotFrame s
+answered s (Ok (deposit d)) = after-filing s Deposited (after-deposit (s .state) (s .memory) (decoded d))
+answered s (Ok withdrawal) = after-filing s Withdrawn (after-withdrawal (s .state) (s .memory))
 answered s (Ok (packet d)) = record { answer = Packet; standing = s }

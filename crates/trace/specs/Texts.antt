@@ -13,7 +13,7 @@ use Rattle.terms.specs.declared.answer.Refusal.{Refusal}
 use Rattle.terms.specs.declared.answer.Reply.{Reply}
 use Rattle.hex.specs.Hex.{encoded}
 use Rattle.trace.specs.declared.session.Answer.{Answer}
-use Rattle.trace.specs.declared.session.Answer.the-variants.{Refused, Replied, Packet}
+use Rattle.trace.specs.declared.session.Answer.the-variants.{Refused, Replied, Deposited, Withdrawn, Packet}
 
 abbrev pub line-text : List ℕ → List ℕ
 line-text b = encoded b ++ 10 ∷ []
@@ -60,4 +60,6 @@ setup-text = line-text (1 ∷ [])
 abbrev pub answer-text : Answer → Option Sending → List ℕ
 answer-text (Refused e) x = refusal-text e
 answer-text (Replied r) x = reply-text r x
+answer-text Deposited x = line-text (3 ∷ [])
+answer-text Withdrawn x = line-text (4 ∷ [])
 answer-text Packet x = line-text (5 ∷ [])

@@ -38,7 +38,7 @@ fn answer_all(heap: Global, input: &[u8]) -> Result<Vec<u8>, AllocError>
         match equip(line) {
             Ok(equipped) => {
                 setup_onto(&mut out)?;
-                run(Session::new(equipped, records.as_slice()), lines, &mut out)?;
+                run(heap, Session::new(equipped, records.as_slice()), lines, &mut out)?;
                 return Ok(out);
             }
             Err(refusal) => refusal_onto(&mut out, refusal)?,
@@ -48,11 +48,11 @@ fn answer_all(heap: Global, input: &[u8]) -> Result<Vec<u8>, AllocError>
 }
 
 // Answers the lines after the set-up.
-fn run(mut session: Session<'_>, mut lines: Lines<'_>, out: &mut Vec<u8>) -> Result<(), AllocError>
+fn run(heap: Global, mut session: Session<'_>, mut lines: Lines<'_>, out: &mut Vec<u8>) -> Result<(), AllocError>
     ensures { λ r. ⌜ made r (λ _. vec-items (now (out .exit)) ≡ vec-items (now (out .entry)) ++ answers-from (standing-of (session .entry)) (lines-of (now (lines .entry .rest)))) ⌝ }
 {
     while let Some(line) = lines.next() {
-        session.answer_line(line, out)?;
+        session.answer_line(heap, line, out)?;
     }
     Ok(())
 }

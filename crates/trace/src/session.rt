@@ -13,6 +13,8 @@ pub(crate) mod frames_in;
 pub(crate) enum Answer {
     Refused(Refusal),
     Replied(Reply),
+    Deposited,
+    Withdrawn,
     Packet,
 }
 

@@ -100,6 +100,8 @@ pub(crate) fn answer_onto(out: &mut Vec<u8>, answer: Answer, latest: Option<Inst
     match answer {
         Answer::Refused(refusal) => refusal_onto(out, refusal),
         Answer::Replied(reply) => reply_onto(out, reply, latest),
+        Answer::Deposited => line_onto(out, &[3]),
+        Answer::Withdrawn => line_onto(out, &[4]),
         Answer::Packet => line_onto(out, &[5]),
     }
 }

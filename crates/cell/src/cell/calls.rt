@@ -1,14 +1,16 @@
 ghost use mathlib.Core.Path.{_≡_};
 ghost use mathlib.Core.Bool.{true};
-ghost use Prim.Native.Nat.{_<_, _^_};
+ghost use mathlib.Core.List.{List};
+ghost use Prim.Native.Nat.{ℕ, _<_, _^_};
 ghost use lib.ListN.{length};
 ghost use Rattle.ports.specs.Radio.{has-room};
 ghost use Rattle.ports.specs.Source.{Fits-asked};
 ghost use Rattle.rules.specs.Setup.{set-up};
 ghost use Rattle.rules.specs.Subframe.{process-done};
 ghost use Rattle.rules.specs.Invariant.{Sound, Sized-grant, Named-below};
+ghost use Rattle.runs.specs.Runs.{deposit-call, withdrawal-call};
 ghost use Rattle.runs.specs.Promise.{Keeps-promise};
-ghost use Rattle.cell.specs.Calls.{after-done, after-subframe};
+ghost use Rattle.cell.specs.Calls.{after-done, after-subframe, after-deposit, after-withdrawal};
 ghost use Rattle.cell.specs.Promises.{world, subframe-over, latest-after};
 ghost use Rattle.cell.specs.Cells.{parts, with-fresh-state};
 
@@ -16,9 +18,12 @@ use crate::cell::Cell;
 use crate::entity::decide;
 use crate::entity::fetch;
 use crate::entity::identify;
+use crate::memory::write_packet;
 use crate::process::IDLE;
 use crate::questions::ask;
+use crate::questions::ask_of_deposit;
 use crate::questions::ask_of_setup;
+use crate::questions::ask_of_withdrawal;
 use crate::reception::force;
 use crate::reception::refer;
 use crate::reception::store;
@@ -121,6 +126,29 @@ impl Cell {
             return Ok(NO_PROCESS);
         };
         Ok(turn(self.setup, &mut self.state, memory, radio, source, gap, g, k))
+    }
+
+    // Puts a packet into the Msg3 buffer, to be sent by the next Random Access Response grant. The clock stays.
+    pub fn deposit(&mut self, memory: &mut [u8], packet: &[u8]) -> Result<(), Refusal>
+        ensures whole { λ r. ⌜ record { answer = r; state = now (self .exit) .state; memory = now (memory .exit) } ≡ after-deposit (now (self .entry) .state) (now (memory .entry)) (now (packet .entry)) ⌝ }
+        ensures setup { λ r. ⌜ now (self .exit) .setup ≡ now (self .entry) .setup ⌝ }
+        ensures promise { λ r. ⌜ ((count : ℕ) → Keeps-promise (now (self .entry) .setup) (world (now (self .entry) .state) (now (memory .entry)) count) (deposit-call (now (packet .entry))) (world (now (self .exit) .state) (now (memory .exit)) count)) ⌝ }
+    {
+        ask_of_deposit(memory.len(), packet.len(), self.state.msg3)?;
+        write_packet(memory, 8, packet);
+        self.state.msg3 = Some(packet.len() as u16);
+        Ok(())
+    }
+
+    // Empties the Msg3 buffer. Packet memory and the clock stay.
+    pub fn withdraw(&mut self) -> Result<(), Refusal>
+        ensures whole { λ r. ⌜ ((memory : List ℕ) → record { answer = r; state = now (self .exit) .state; memory = memory } ≡ after-withdrawal (now (self .entry) .state) memory) ⌝ }
+        ensures setup { λ r. ⌜ now (self .exit) .setup ≡ now (self .entry) .setup ⌝ }
+        ensures promise { λ r. ⌜ ((memory : List ℕ) (count : ℕ) → Keeps-promise (now (self .entry) .setup) (world (now (self .entry) .state) memory count) withdrawal-call (world (now (self .exit) .state) memory count)) ⌝ }
+    {
+        ask_of_withdrawal(self.state.msg3)?;
+        self.state.msg3 = None;
+        Ok(())
     }
 
     // Packets begun and sendings made since set-up.

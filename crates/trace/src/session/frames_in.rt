@@ -4,9 +4,12 @@ ghost use mathlib.Core.List.{_++_};
 ghost use lib.ListN.{replicate};
 ghost use Rattle.std.specs.Of.Vec.{vec-items};
 ghost use Rattle.std.specs.Vec.{made};
+ghost use Rattle.cell.specs.Calls.{after-deposit, after-withdrawal};
+ghost use Rattle.hex.specs.Hex.{decoded};
 ghost use Rattle.frames.specs.Frames.{reads};
-ghost use Rattle.trace.specs.Standing.{admitted, equipped, replied, called, answered};
+ghost use Rattle.trace.specs.Standing.{admitted, equipped, replied, called, filed, after-filing, answered};
 ghost use Rattle.trace.specs.Answers.{text-of};
+ghost use Rattle.trace.specs.declared.session.Answer.the-variants.{Deposited, Withdrawn};
 ghost use Rattle.trace.specs.Sessions.{equipment-in, Fresh-in, opened, standing-of};
 
 use crate::session::Answer;
@@ -23,7 +26,9 @@ use cell::cell::Cell;
 use frames::frame::Frame;
 use frames::frame::SetupFrame;
 use frames::read::read;
+use hex::decode_onto;
 use std::alloc::AllocError;
+use std::alloc::Global;
 use terms::answer::Refusal;
 use terms::answer::Reply;
 use terms::grant::Grant;
@@ -66,6 +71,16 @@ fn reply_or_refusal(result: Result<Reply, Refusal>) -> Answer
     }
 }
 
+// The answer to a deposit or a withdrawal: the one given, where it was accepted.
+fn done_or_refusal(answer: Answer, result: Result<(), Refusal>) -> Answer
+    ensures { λ r. ⌜ r ≡ filed answer result ⌝ }
+{
+    match result {
+        Ok(()) => answer,
+        Err(refusal) => Answer::Refused(refusal),
+    }
+}
+
 impl<'a> Session<'a> {
     // After an accepted set-up.
     pub(crate) fn new(equipped: Equipped, records: &'a [u8]) -> Session<'a>
@@ -88,24 +103,44 @@ impl<'a> Session<'a> {
         reply_or_refusal(result)
     }
 
+    // A packet for the Msg3 buffer, by its digits.
+    fn deposit(&mut self, heap: Global, digits: &[u8]) -> Result<Answer, AllocError>
+        ensures { λ r. ⌜ made r (λ v. record { answer = v; standing = standing-of (now (self .exit)) } ≡ after-filing (standing-of (now (self .entry))) Deposited (after-deposit (standing-of (now (self .entry)) .state) (standing-of (now (self .entry)) .memory) (decoded (now (digits .entry))))) ⌝ }
+    {
+        let mut packet = Vec::new(heap);
+        decode_onto(&mut packet, digits)?;
+        let result = self.cell.deposit(&mut self.memory, packet.as_slice());
+        Ok(done_or_refusal(Answer::Deposited, result))
+    }
+
+    fn withdraw(&mut self) -> Answer
+        ensures { λ r. ⌜ record { answer = r; standing = standing-of (now (self .exit)) } ≡ after-filing (standing-of (now (self .entry))) Withdrawn (after-withdrawal (standing-of (now (self .entry)) .state) (standing-of (now (self .entry)) .memory)) ⌝ }
+    {
+        let result = self.cell.withdraw();
+        done_or_refusal(Answer::Withdrawn, result)
+    }
+
     // Works a line.
-    fn work(&mut self, line: &[u8]) -> Answer
-        ensures { λ r. ⌜ record { answer = r; standing = standing-of (now (self .exit)) } ≡ answered (standing-of (now (self .entry))) (reads (now (line .entry))) ⌝ }
+    fn work(&mut self, heap: Global, line: &[u8]) -> Result<Answer, AllocError>
+        ensures { λ r. ⌜ made r (λ v. record { answer = v; standing = standing-of (now (self .exit)) } ≡ answered (standing-of (now (self .entry))) (reads (now (line .entry)))) ⌝ }
     {
         match read(line) {
-            Ok(Frame::Subframe { answer, grant }) => self.subframe(answer, grant),
-            Ok(Frame::Packet(_)) => Answer::Packet,
-            Ok(Frame::Setup(_) | Frame::Deposit(_) | Frame::Withdrawal) => Answer::Refused(Refusal::NotFrame),
-            Err(refusal) => Answer::Refused(refusal),
+            Ok(Frame::Subframe { answer, grant }) => Ok(self.subframe(answer, grant)),
+            Ok(Frame::Deposit(digits)) => self.deposit(heap, digits),
+            Ok(Frame::Withdrawal) => Ok(self.withdraw()),
+            Ok(Frame::Packet(_)) => Ok(Answer::Packet),
+            Ok(Frame::Setup(_)) => Ok(Answer::Refused(Refusal::NotFrame)),
+            Err(refusal) => Ok(Answer::Refused(refusal)),
         }
     }
 
     // Works a line, and appends the text of its answer.
-    pub(crate) fn answer_line(&mut self, line: &[u8], out: &mut Vec<u8>) -> Result<(), AllocError>
-        ensures session { λ _. ⌜ standing-of (now (self .exit)) ≡ answered (standing-of (now (self .entry))) (reads (now (line .entry))) .standing ⌝ }
+    pub(crate) fn answer_line(&mut self, heap: Global, line: &[u8], out: &mut Vec<u8>) -> Result<(), AllocError>
+        ensures session { λ r. ⌜ made r (λ _. standing-of (now (self .exit)) ≡ answered (standing-of (now (self .entry))) (reads (now (line .entry))) .standing) ⌝ }
         ensures text { λ r. ⌜ made r (λ _. vec-items (now (out .exit)) ≡ vec-items (now (out .entry)) ++ text-of (answered (standing-of (now (self .entry))) (reads (now (line .entry))))) ⌝ }
     {
-        let answer = self.work(line);
-        answer_onto(out, answer, self.radio.latest())
+        let answer = self.work(heap, line)?;
+        answer_onto(out, answer, self.radio.latest())?;
+        Ok(())
     }
 }
