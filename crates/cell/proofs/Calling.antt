@@ -31,8 +31,14 @@ use Rattle.cell.specs.declared.cell.Cell.{Cell}
 pub sound-cell : (c : Cell) → Sound (c .setup) (c .state)
 sound-cell c = record {
   bounds = record { least = c .least; most = c .most; least3 = c .«least_msg3»; most3 = c .«most_msg3» };
-  packets = c .packets; sendings = c .sendings; smallest = c .smallest; largest = c .largest; shortest = c .shortest; longest = c .longest; repeats = c .repeats;
-  good = λ k l. record { index = c .indices k l; count = c .counts k l; not-empty = c .«not_empty» k l; not-long = c .«not_long» k l; limit = c .limits k l }
+  packets = c .packets;
+  sendings = c .sendings;
+  smallest = c .smallest;
+  largest = c .largest;
+  shortest = c .shortest;
+  longest = c .longest;
+  repeats = c .repeats;
+  good = λ k l. record { index = c .indices k l; count = c .counts k l; not-empty = c .«not_empty» k l; not-long = c .«not_long» k l; limit = c .limits k l };
 }
 
 module _ (su : Setup) (st : State) (m : List ℕ) (gap : Bool) (a : Option Feedback) (g : Option Grant) (s1 : State) (f : Option GrantInForce) (c : Option ConfiguredGrant) (o : Option ℕ)
@@ -83,7 +89,7 @@ module _ (su : Setup) (st : State) (m : List ℕ) (gap : Bool) (a : Option Feedb
           whole = y .whole;
           bound = process-bound su s1 (st .clock) k g h1 (y .fields) (ek ∙ eo ∙ ap (λ x. process-of (su .kind) (st .clock) x (s1 .repetition)) ef);
           clock = subst T (sym es) (y .clock);
-          room = y .room
+          room = y .room;
         }
 
     module _ {S : Type 0} (offers : S → ℕ → Option (List ℕ)) (used : S → ℕ → S) (r : Radioed) (s : S) where

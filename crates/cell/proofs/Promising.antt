@@ -36,9 +36,10 @@ use Rattle.cell.specs.Promises.{world, subframe-over, latest-sent, latest-afte
 
 -- a call that leaves what a step of the run leaves keeps the promise
 pub keeps : (su : Setup) (w w′ : World) (c : Call) → step su w c .world ≡ w′ → Keeps-promise su w c w′
-keeps su w w′ c e p es accepted ew =
-    (world-with p c ∙ ap (λ s. step s (world-now p) c .world) es ∙ ap (λ x. step su x c .world) ew ∙ e,
-    promise (past-with p c) (subst Accepted (sym es) accepted))
+keeps su w w′ c e p es accepted ew = (
+  world-with p c ∙ ap (λ s. step s (world-now p) c .world) es ∙ ap (λ x. step su x c .world) ew ∙ e,
+  promise (past-with p c) (subst Accepted (sym es) accepted),
+)
 
 fits-of : (n : ℕ) (o : Option (List ℕ)) → Fits-size n o → (b : List ℕ) → o ≡ Some b → Fits n b
 fits-of n None h b e = absurd (let z : _≡_ {A = ℕ} 0 1 = cc in omega arith)
@@ -115,12 +116,14 @@ module _ {S : Type 0} (offers : S → ℕ → Option (List ℕ)) (used : S → �
       where
         done : Done
         done = subframe-done su st m asked-for
+
         latest-of : (q : Result (Unit {0}) Refusal) → after-result offers used st m r s (unless-refused q done) .radio .latest ≡ latest-sent (step-of here (subframe-step here (unless-refused q done)) .events) (r .latest)
         latest-of (Err z) = refl
         latest-of (Ok u) = done-latest r su (with-configured heard-now (stored-after (st .clock) (st .configured) g)) m (gaps (st .clock)) (offers s) in-force (process-of (su .kind) (st .clock) in-force (st .repetition)) (answering (su .kind) (st .clock)) (st .clock) a
           where
             heard-now : State
             heard-now = heard su st (gaps (st .clock)) a
+
             in-force : Option GrantInForce
             in-force = grant-in-force su (st .clock) (st .configured) g
 

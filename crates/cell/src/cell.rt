@@ -3,6 +3,7 @@ ghost use Rattle.std.specs.Options.{valueOr};
 ghost use Rattle.rules.specs.Invariant.{Indices, Counts, Not-empty, Not-long, Limits, stored-size, repeated-process};
 
 mod calls;
+mod figures;
 
 use terms::setup::Setup;
 use terms::state::State;

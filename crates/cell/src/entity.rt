@@ -1,7 +1,6 @@
 // The HARQ entity (TS 36.321, 5.4.2.1).
 ghost use mathlib.Core.Path.{_≡_};
 ghost use Rattle.rules.specs.Entity.{process-at, repeating, process-of, answering, wants-new, spares, decided};
-
 use crate::process::IDLE;
 use crate::process::is_ack;
 use terms::answer::Outcome;
@@ -25,13 +24,22 @@ pub(crate) fn running(clock: u64, repetition: Option<Repetition>) -> Option<u8>
     ensures { λ r. ⌜ r ≡ repeating clock repetition ⌝ }
 {
     match repetition {
-        Some(r) => if clock < r.until { Some(r.process) } else { None },
+        Some(r) => if clock < r.until {
+            Some(r.process)
+        } else {
+            None
+        },
         None => None,
     }
 }
 
 // The process of a subframe.
-pub(crate) fn identify(kind: CellKind, clock: u64, g: Option<GrantInForce>, repetition: Option<Repetition>) -> Option<u8>
+pub(crate) fn identify(
+    kind: CellKind,
+    clock: u64,
+    g: Option<GrantInForce>,
+    repetition: Option<Repetition>,
+) -> Option<u8>
     ensures { λ r. ⌜ r ≡ process-of kind clock g repetition ⌝ }
 {
     match kind {
@@ -53,7 +61,11 @@ pub(crate) fn identify_answered(kind: CellKind, clock: u64) -> Option<u8>
     }
     match kind {
         CellKind::Plain => Some(((clock - 4) % 8) as u8),
-        CellKind::Bundled => if clock % 4 == 3 { Some(((clock - 4) % 16 / 4) as u8) } else { None },
+        CellKind::Bundled => if clock % 4 == 3 {
+            Some(((clock - 4) % 16 / 4) as u8)
+        } else {
+            None
+        },
         CellKind::Asynchronous => None,
     }
 }
@@ -76,7 +88,9 @@ pub(crate) fn is_spared(setup: Setup, reception: Reception, p: Process) -> bool
     ensures { λ r. ⌜ r ≡ spares setup reception p ⌝ }
 {
     match reception {
-        Reception::Configured => setup.interval < 10 && p.buffer.is_some() && !is_ack(p.harq_feedback),
+        Reception::Configured => setup.interval < 10
+            && p.buffer.is_some()
+            && !is_ack(p.harq_feedback),
         _ => false,
     }
 }
@@ -86,10 +100,18 @@ pub(crate) fn decide(setup: Setup, g: Option<GrantInForce>, p: Process) -> Decis
     ensures { λ r. ⌜ r ≡ decided setup g p ⌝ }
 {
     let Some(g) = g else {
-        return if p.buffer.is_some() { Decision::NonAdaptive } else { Decision::Rest(Outcome::Idle) };
+        return if p.buffer.is_some() {
+            Decision::NonAdaptive
+        } else {
+            Decision::Rest(Outcome::Idle)
+        };
     };
     if is_new(g.reception, p) {
-        if is_spared(setup, g.reception, p) { Decision::NonAdaptive } else { Decision::New(g) }
+        if is_spared(setup, g.reception, p) {
+            Decision::NonAdaptive
+        } else {
+            Decision::New(g)
+        }
     } else if p.buffer.is_some() {
         Decision::Adaptive(g)
     } else {

@@ -12,7 +12,6 @@ ghost use Rattle.rules.specs.Entity.{msg3-taken, asked-by, obtained};
 ghost use Rattle.rules.specs.Subframe.{sending-by};
 ghost use Rattle.rules.specs.Invariant.{Fresh-sized};
 ghost use Rattle.cell.specs.Effects.{new-packet, with-packet, with-fresh};
-
 use ports::radio::Radio;
 use ports::source::Source;
 use terms::decision::NewPacket;
@@ -73,7 +72,13 @@ pub(crate) fn take_msg3(reception: Reception, msg3: Option<u16>) -> Option<u16>
 }
 
 // A packet for a new transmission goes to the front of stretch `k`: from the Msg3 buffer, or else from the source.
-pub(crate) fn obtain<S: Source>(memory: &mut [u8], source: &mut S, k: u8, msg3: Option<u16>, g: GrantInForce) -> Option<NewPacket>
+pub(crate) fn obtain<S: Source>(
+    memory: &mut [u8],
+    source: &mut S,
+    k: u8,
+    msg3: Option<u16>,
+    g: GrantInForce,
+) -> Option<NewPacket>
     requires { ⌜ length (now memory) ≡ 5805 ⌝ ∗ ⌜ k < 9 ⌝ ∗ ⌜ g .size ≤ 645 ⌝ }
     requires { ⌜ 1 ≤ valueOr msg3 1 ⌝ ∗ ⌜ valueOr msg3 1 ≤ 645 ⌝ }
     ensures sized { λ r. ⌜ Fresh-sized (obtained g msg3 (now (memory .entry)) (offers (now (source .entry)))) ⌝ }
@@ -84,10 +89,16 @@ pub(crate) fn obtain<S: Source>(memory: &mut [u8], source: &mut S, k: u8, msg3: 
 {
     if let Some(length) = take_msg3(g.reception, msg3) {
         copy_msg3(memory, k, length);
-        return Some(NewPacket { length, from_msg3: true });
+        return Some(NewPacket {
+            length,
+            from_msg3: true,
+        });
     }
     if fill_stretch(memory, source, k, g.size) {
-        return Some(NewPacket { length: g.size, from_msg3: false });
+        return Some(NewPacket {
+            length: g.size,
+            from_msg3: false,
+        });
     }
     None
 }

@@ -2,7 +2,6 @@
 ghost use mathlib.Core.Path.{_≡_};
 ghost use Prim.Native.Nat.{_<_};
 ghost use Rattle.rules.specs.Process.{synchronous, is-ack, hears, granted-version, first-index, reference-set, renewed, counted, adapted, repeated, on-air, advanced, maximum, gives-up, transmitted};
-
 use terms::decision::NewPacket;
 use terms::grant::GrantInForce;
 use terms::grant::Reception;
@@ -52,7 +51,11 @@ pub(crate) fn hear(p: Process, gap: bool, answer: Option<Feedback>) -> Process
         return p;
     }
     let harq_feedback = if gap {
-        if p.from_msg3 { p.harq_feedback } else { Feedback::Ack }
+        if p.from_msg3 {
+            p.harq_feedback
+        } else {
+            Feedback::Ack
+        }
     } else {
         answer.unwrap_or(p.harq_feedback)
     };
@@ -165,14 +168,19 @@ pub(crate) fn advance(setup: Setup, p: Process) -> Process
 pub(crate) fn maximum_of(setup: Setup, from_msg3: bool) -> u8
     ensures { λ r. ⌜ r ≡ maximum setup «from_msg3» ⌝ }
 {
-    if from_msg3 { setup.max_harq_msg3_tx } else { setup.max_harq_tx }
+    if from_msg3 {
+        setup.max_harq_msg3_tx
+    } else {
+        setup.max_harq_tx
+    }
 }
 
 // Whether the transmissions of a packet are used up.
 pub(crate) fn is_last(setup: Setup, p: Process) -> bool
     ensures { λ r. ⌜ r ≡ gives-up setup p ⌝ }
 {
-    is_synchronous(setup.kind) && u16::from(p.current_tx_nb) + 1 == u16::from(maximum_of(setup, p.from_msg3))
+    is_synchronous(setup.kind)
+        && u16::from(p.current_tx_nb) + 1 == u16::from(maximum_of(setup, p.from_msg3))
 }
 
 // A process after a transmission, sent or not: the last one flushes its buffer.

@@ -3,7 +3,6 @@ ghost use mathlib.Core.Path.{_≡_};
 ghost use Rattle.rules.specs.Setup.{first-no, is-plain, set-up-questions};
 ghost use Rattle.rules.specs.Msg3.{deposit-questions, withdrawal-questions};
 ghost use Rattle.rules.specs.Questions.{answer-due, is-bundled, kind-allowed, fields-by-kind, fields-hold, grant-wants-new, questioned, asked-of-grant};
-
 use crate::entity::fetch;
 use crate::entity::identify;
 use crate::entity::identify_answered;
@@ -19,7 +18,12 @@ use terms::setup::CellKind;
 use terms::setup::Setup;
 use terms::state::State;
 
-pub(crate) fn is_answer_due(setup: Setup, state: &State, gap: bool, answer: Option<Feedback>) -> bool
+pub(crate) fn is_answer_due(
+    setup: Setup,
+    state: &State,
+    gap: bool,
+    answer: Option<Feedback>,
+) -> bool
     ensures { λ r. ⌜ r ≡ answer-due setup (now (state .entry)) gap answer ⌝ }
 {
     if answer.is_none() {
@@ -58,7 +62,10 @@ pub(crate) fn do_fields_go(kind: CellKind, g: Grant) -> bool
     ensures { λ r. ⌜ r ≡ fields-by-kind kind g ⌝ }
 {
     match kind {
-        CellKind::Plain | CellKind::Bundled => g.mcs <= 31 && g.version == 0 && g.process == 0 && g.repetitions == 1,
+        CellKind::Plain | CellKind::Bundled => g.mcs <= 31
+            && g.version == 0
+            && g.process == 0
+            && g.repetitions == 1,
         CellKind::Asynchronous => {
             g.mcs <= 28
                 && g.version <= 3
@@ -73,7 +80,11 @@ pub(crate) fn do_fields_go(kind: CellKind, g: Grant) -> bool
 pub(crate) fn do_fields_hold(setup: Setup, g: Grant) -> bool
     ensures { λ r. ⌜ r ≡ fields-hold setup g ⌝ }
 {
-    is_kind_allowed(setup, g) && g.ndi <= 1 && 1 <= g.size && g.size <= 645 && do_fields_go(setup.kind, g)
+    is_kind_allowed(setup, g)
+        && g.ndi <= 1
+        && 1 <= g.size
+        && g.size <= 645
+        && do_fields_go(setup.kind, g)
 }
 
 // Whether a grant over the air wants a new transmission.
@@ -84,7 +95,10 @@ pub(crate) fn is_new_wanted(setup: Setup, state: &State, g: Grant) -> bool
         return false;
     };
     match identify(setup.kind, state.clock, Some(in_force), state.repetition) {
-        Some(k) => is_new(in_force.reception, refer(Some(in_force), fetch(&state.processes, k))),
+        Some(k) => is_new(
+            in_force.reception,
+            refer(Some(in_force), fetch(&state.processes, k)),
+        ),
         None => false,
     }
 }
@@ -110,7 +124,15 @@ pub(crate) fn ask_of_grant(setup: Setup, state: &State, grant: Option<Grant>) ->
     Ok(())
 }
 
-pub(crate) fn ask(setup: Setup, state: &State, memory: usize, ready: bool, gap: bool, answer: Option<Feedback>, grant: Option<Grant>) -> Result<(), Refusal>
+pub(crate) fn ask(
+    setup: Setup,
+    state: &State,
+    memory: usize,
+    ready: bool,
+    gap: bool,
+    answer: Option<Feedback>,
+    grant: Option<Grant>,
+) -> Result<(), Refusal>
     ensures { λ r. ⌜ r ≡ questioned setup (now (state .entry)) memory ready gap answer grant ⌝ }
 {
     if memory != 5805 {
@@ -132,7 +154,11 @@ pub(crate) fn ask(setup: Setup, state: &State, memory: usize, ready: bool, gap: 
 pub(crate) fn ask_of_setup(setup: Setup) -> Result<(), Refusal>
     ensures { λ r. ⌜ r ≡ first-no (set-up-questions setup) ⌝ }
 {
-    if setup.max_harq_tx < 1 || setup.max_harq_tx > 28 || setup.max_harq_msg3_tx < 1 || setup.max_harq_msg3_tx > 8 {
+    if setup.max_harq_tx < 1
+        || setup.max_harq_tx > 28
+        || setup.max_harq_msg3_tx < 1
+        || setup.max_harq_msg3_tx > 8
+    {
         return Err(Refusal::Maximum);
     }
     if setup.interval != 0 && (setup.interval > 640 || !is_plain(setup.kind)) {

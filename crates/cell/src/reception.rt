@@ -1,7 +1,6 @@
 // UL grant reception (TS 36.321, 5.4.1).
 ghost use mathlib.Core.Path.{_≡_};
 ghost use Rattle.rules.specs.Reception.{activates, reception-of, over-the-air, recurring, recurs, stored-in-force, grant-in-force, stored-after, referred};
-
 use terms::grant::ConfiguredGrant;
 use terms::grant::Grant;
 use terms::grant::GrantInForce;
@@ -22,7 +21,11 @@ pub(crate) fn reception(g: Grant) -> Option<Reception>
     match g.kind {
         0 => Some(Reception::CRnti(g.ndi)),
         1 => Some(Reception::TemporaryCRnti),
-        2 => Some(if g.ndi == 0 { Reception::Configured } else { Reception::SpsRetransmission }),
+        2 => Some(if g.ndi == 0 {
+            Reception::Configured
+        } else {
+            Reception::SpsRetransmission
+        }),
         4 => Some(Reception::RandomAccessResponse),
         _ => None,
     }
@@ -66,17 +69,30 @@ pub(crate) fn is_due(setup: Setup, clock: u64, c: ConfiguredGrant) -> bool
     setup.interval > 0 && c.since < clock && (clock - c.since) % u64::from(setup.interval) == 0
 }
 
-pub(crate) fn recall(setup: Setup, clock: u64, configured: Option<ConfiguredGrant>) -> Option<GrantInForce>
+pub(crate) fn recall(
+    setup: Setup,
+    clock: u64,
+    configured: Option<ConfiguredGrant>,
+) -> Option<GrantInForce>
     ensures { λ r. ⌜ r ≡ stored-in-force setup clock configured ⌝ }
 {
     match configured {
-        Some(c) => if is_due(setup, clock, c) { Some(recur(c)) } else { None },
+        Some(c) => if is_due(setup, clock, c) {
+            Some(recur(c))
+        } else {
+            None
+        },
         None => None,
     }
 }
 
 // The grant in force: one over the air takes the place of the stored one.
-pub(crate) fn force(setup: Setup, clock: u64, configured: Option<ConfiguredGrant>, grant: Option<Grant>) -> Option<GrantInForce>
+pub(crate) fn force(
+    setup: Setup,
+    clock: u64,
+    configured: Option<ConfiguredGrant>,
+    grant: Option<Grant>,
+) -> Option<GrantInForce>
     ensures { λ r. ⌜ r ≡ grant-in-force setup clock configured grant ⌝ }
 {
     match grant {
@@ -86,7 +102,11 @@ pub(crate) fn force(setup: Setup, clock: u64, configured: Option<ConfiguredGrant
 }
 
 // What is stored after a subframe.
-pub(crate) fn store(clock: u64, configured: Option<ConfiguredGrant>, grant: Option<Grant>) -> Option<ConfiguredGrant>
+pub(crate) fn store(
+    clock: u64,
+    configured: Option<ConfiguredGrant>,
+    grant: Option<Grant>,
+) -> Option<ConfiguredGrant>
     ensures { λ r. ⌜ r ≡ stored-after clock configured grant ⌝ }
 {
     let Some(g) = grant else {
@@ -112,9 +132,10 @@ pub(crate) fn refer(g: Option<GrantInForce>, p: Process) -> Process
     };
     match g.reception {
         Reception::CRnti(_) | Reception::TemporaryCRnti => p,
-        Reception::SpsRetransmission | Reception::Configured | Reception::RandomAccessResponse => Process {
-            reference_ndi: None,
-            ..p
-        },
+        Reception::SpsRetransmission | Reception::Configured | Reception::RandomAccessResponse =>
+            Process {
+                reference_ndi: None,
+                ..p
+            },
     }
 }

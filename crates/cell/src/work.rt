@@ -10,7 +10,6 @@ ghost use Rattle.rules.specs.Entity.{course, asked, work-of, memory-after};
 ghost use Rattle.rules.specs.Subframe.{outcome-of, attempted, concluded, sending, sending-if, sending-by, repetition-by, repetition-after, finished, heard};
 ghost use Rattle.rules.specs.Process.{on-air};
 ghost use Rattle.rules.specs.Invariant.{Sane, Obtains, Loaded, Loaded-work};
-
 use crate::entity::fetch;
 use crate::entity::identify_answered;
 use crate::memory::obtain;
@@ -52,7 +51,15 @@ pub(crate) fn take_answer(setup: Setup, state: &mut State, gap: bool, answer: Op
 }
 
 // Carries a decision out, up to the sending: a new transmission first obtains its packet.
-pub(crate) fn begin<S: Source>(setup: Setup, memory: &mut [u8], source: &mut S, k: u8, msg3: Option<u16>, p: Process, decision: Decision) -> Work
+pub(crate) fn begin<S: Source>(
+    setup: Setup,
+    memory: &mut [u8],
+    source: &mut S,
+    k: u8,
+    msg3: Option<u16>,
+    p: Process,
+    decision: Decision,
+) -> Work
     requires { ⌜ length (now memory) ≡ 5805 ⌝ ∗ ⌜ k < 9 ⌝ ∗ ⌜ p .«current_tx_nb» < 255 ⌝ ∗ ⌜ Sane p decision ⌝ }
     requires { ⌜ 1 ≤ valueOr msg3 1 ⌝ ∗ ⌜ valueOr msg3 1 ≤ 645 ⌝ }
     ensures obtains { λ r. ⌜ Obtains decision msg3 (now (memory .entry)) (offers (now (source .entry))) ⌝ }
@@ -83,7 +90,17 @@ fn outcome(acked: bool, sent: bool) -> Outcome
 }
 
 // A transmission goes on the air, if nothing keeps it back, and counts against the maximum either way.
-fn attempt<R: Radio>(setup: Setup, clock: u64, memory: &[u8], radio: &mut R, k: u8, gap: bool, new: bool, acked: bool, p: Process) -> Conclusion
+fn attempt<R: Radio>(
+    setup: Setup,
+    clock: u64,
+    memory: &[u8],
+    radio: &mut R,
+    k: u8,
+    gap: bool,
+    new: bool,
+    acked: bool,
+    p: Process,
+) -> Conclusion
     requires { ⌜ length (now memory) ≡ 5805 ⌝ ∗ ⌜ k < 9 ⌝ ∗ ⌜ Loaded setup p ⌝ ∗ ⌜ has-room (radioed (now radio)) ≡ true ⌝ }
     ensures conclusion { λ r. ⌜ r ≡ attempted setup k gap new acked p ⌝ }
     ensures radio { λ r. ⌜ radioed (now (radio .exit)) ≡ told (radioed (now (radio .entry))) (sending-if (on-air acked gap p) (sending-by clock k (now (memory .entry)) p)) ⌝ }
@@ -98,7 +115,11 @@ fn attempt<R: Radio>(setup: Setup, clock: u64, memory: &[u8], radio: &mut R, k: 
         reply: Reply {
             outcome: outcome(acked, sent),
             process: k,
-            version: if sent { p.current_irv.version() } else { RedundancyVersion(0) },
+            version: if sent {
+                p.current_irv.version()
+            } else {
+                RedundancyVersion(0)
+            },
             given_up: is_last(setup, p),
         },
         begun: new,
@@ -107,7 +128,15 @@ fn attempt<R: Radio>(setup: Setup, clock: u64, memory: &[u8], radio: &mut R, k: 
 }
 
 // Does the work of a subframe.
-pub(crate) fn conclude<R: Radio>(setup: Setup, clock: u64, memory: &[u8], radio: &mut R, k: u8, gap: bool, work: Work) -> Conclusion
+pub(crate) fn conclude<R: Radio>(
+    setup: Setup,
+    clock: u64,
+    memory: &[u8],
+    radio: &mut R,
+    k: u8,
+    gap: bool,
+    work: Work,
+) -> Conclusion
     requires { ⌜ length (now memory) ≡ 5805 ⌝ ∗ ⌜ k < 9 ⌝ ∗ ⌜ Loaded-work setup work ⌝ ∗ ⌜ has-room (radioed (now radio)) ≡ true ⌝ }
     ensures conclusion { λ r. ⌜ r ≡ concluded setup k gap work ⌝ }
     ensures radio { λ r. ⌜ radioed (now (radio .exit)) ≡ told (radioed (now (radio .entry))) (sending clock k (now (memory .entry)) gap work) ⌝ }
@@ -131,7 +160,12 @@ pub(crate) fn conclude<R: Radio>(setup: Setup, clock: u64, memory: &[u8], radio:
 }
 
 // A grant that an asynchronous process follows makes its repetitions run.
-fn start_repetition(kind: CellKind, clock: u64, g: Option<GrantInForce>, repetition: Option<Repetition>) -> Option<Repetition>
+fn start_repetition(
+    kind: CellKind,
+    clock: u64,
+    g: Option<GrantInForce>,
+    repetition: Option<Repetition>,
+) -> Option<Repetition>
     requires { ⌜ clock < 2 ^ 48 ⌝ }
     ensures { λ r. ⌜ r ≡ repetition-by kind clock g repetition ⌝ }
 {
@@ -144,7 +178,13 @@ fn start_repetition(kind: CellKind, clock: u64, g: Option<GrantInForce>, repetit
     }
 }
 
-pub(crate) fn rerun(kind: CellKind, clock: u64, g: Option<GrantInForce>, work: Work, repetition: Option<Repetition>) -> Option<Repetition>
+pub(crate) fn rerun(
+    kind: CellKind,
+    clock: u64,
+    g: Option<GrantInForce>,
+    work: Work,
+    repetition: Option<Repetition>,
+) -> Option<Repetition>
     requires { ⌜ clock < 2 ^ 48 ⌝ }
     ensures { λ r. ⌜ r ≡ repetition-after kind clock g work repetition ⌝ }
 {
@@ -155,7 +195,12 @@ pub(crate) fn rerun(kind: CellKind, clock: u64, g: Option<GrantInForce>, work: W
 }
 
 // The end of a subframe.
-pub(crate) fn finish(state: &mut State, k: u8, repetition: Option<Repetition>, conclusion: Conclusion)
+pub(crate) fn finish(
+    state: &mut State,
+    k: u8,
+    repetition: Option<Repetition>,
+    conclusion: Conclusion,
+)
     requires { ⌜ k < 8 ⌝ ∗ ⌜ now state .clock < 2 ^ 48 ⌝ ∗ ⌜ now state .tally .packets ≤ now state .clock ⌝ ∗ ⌜ now state .tally .sendings ≤ now state .clock ⌝ }
     ensures { λ _. ⌜ now (state .exit) ≡ finished (now (state .entry)) k repetition conclusion ⌝ }
 {

@@ -2,7 +2,6 @@ ghost use mathlib.Core.Path.{_≡_};
 ghost use Prim.Native.Nat.{ℕ};
 ghost use Rattle.terms.specs.Sendings.{sending-of};
 ghost use Rattle.ports.specs.Radio.{Radioed, has-room, accepts, after-take};
-
 use terms::instruction::Instruction;
 
 // What sends a packet on the air.

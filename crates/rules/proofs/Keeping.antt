@@ -79,6 +79,7 @@ loaded-new su g n m p b l u = record { index = at-first (su .kind); count = omeg
     at-first Plain = omega arith
     at-first Bundled = omega arith
     at-first Asynchronous = grind arith
+
     most : (m : Bool) → 0 + 1 ≤ maximum su m
     most true = b .least3
     most false = b .least
@@ -147,8 +148,10 @@ good-transmitted su sent p h = go (gives-up su p) refl
   where
     q : Process
     q = cond sent (advanced su p) p
+
     l : Loaded su q
     l = loaded-if su sent (advanced su p) p (loaded-advanced su p h) h
+
     go : (b : Bool) → gives-up su p ≡ b → Good su (cond b (flushed q) q)
     go true e = good-flushed su q l
     go false e = good-kept su q l (gives-up-same su sent p ∙ e)
@@ -264,10 +267,16 @@ good-heard su st (Some j) gap a k b l h = good-set su (st .processes) j k _ (goo
 
 pub sound-heard : (su : Setup) (st : State) (gap : Bool) (a : Option Feedback) → Sound su st → Sound su (heard su st gap a)
 sound-heard su st gap a h = record {
-    bounds = h .bounds;
-    packets = h .packets; sendings = h .sendings; smallest = h .smallest; largest = h .largest; shortest = h .shortest; longest = h .longest; repeats = h .repeats;
-    good = λ k l. good-heard su st (answering (su .kind) (st .clock)) gap a k (answering-below (su .kind) (st .clock)) l h
-  }
+  bounds = h .bounds;
+  packets = h .packets;
+  sendings = h .sendings;
+  smallest = h .smallest;
+  largest = h .largest;
+  shortest = h .shortest;
+  longest = h .longest;
+  repeats = h .repeats;
+  good = λ k l. good-heard su st (answering (su .kind) (st .clock)) gap a k (answering-below (su .kind) (st .clock)) l h;
+}
 
 -- the stored grant
 abbrev Stored-sized : Option ConfiguredGrant → Type 0
@@ -325,12 +334,16 @@ at-most false m n h = omega arith
 
 pub sound-finished : (su : Setup) (st : State) (k : ℕ) (r : Option Repetition) (c : Conclusion) → Sound su st → Good su (c .process) → repeated-process r < 8 → Sound su (finished st k r c)
 sound-finished su st k r c h g z = record {
-    bounds = h .bounds;
-    packets = at-most (c .begun) (st .tally .packets) (st .clock) (h .packets);
-    sendings = at-most (c .sent) (st .tally .sendings) (st .clock) (h .sendings);
-    smallest = h .smallest; largest = h .largest; shortest = h .shortest; longest = h .longest; repeats = z;
-    good = λ i l. good-set su (st .processes) k i _ g (h .good i l)
-  }
+  bounds = h .bounds;
+  packets = at-most (c .begun) (st .tally .packets) (st .clock) (h .packets);
+  sendings = at-most (c .sent) (st .tally .sendings) (st .clock) (h .sendings);
+  smallest = h .smallest;
+  largest = h .largest;
+  shortest = h .shortest;
+  longest = h .longest;
+  repeats = z;
+  good = λ i l. good-set su (st .processes) k i _ g (h .good i l);
+}
 
 pub sound-moved : (su : Setup) (st : State) → Sound su st → Sound su (clock-moved st)
 sound-moved su st h = record { bounds = h .bounds; packets = omega (arith, h .packets); sendings = omega (arith, h .sendings); smallest = h .smallest; largest = h .largest; shortest = h .shortest; longest = h .longest; repeats = h .repeats; good = h .good }
@@ -384,9 +397,16 @@ idle-at k = blanks 8 k
 
 pub sound-fresh : (su : Setup) (t : ℕ) → Bounds su → Sound su (fresh-state t)
 sound-fresh su t b = record {
-    bounds = b; packets = omega arith; sendings = omega arith; smallest = omega arith; largest = omega arith; shortest = omega arith; longest = omega arith; repeats = omega arith;
-    good = λ k l. let P : Process → Type 0 = λ p. Good su p in subst P (sym (idle-at k)) (good-idle su)
-  }
+  bounds = b;
+  packets = omega arith;
+  sendings = omega arith;
+  smallest = omega arith;
+  largest = omega arith;
+  shortest = omega arith;
+  longest = omega arith;
+  repeats = omega arith;
+  good = λ k l. let P : Process → Type 0 = λ p. Good su p in subst P (sym (idle-at k)) (good-idle su);
+}
 
 -- what the questions of set-up have settled
 pub bounds-asked : (su : Setup) → Ok tt ≡ first-no (set-up-questions su) → Bounds su

@@ -80,7 +80,7 @@ renewed su g n m p = record {
   mcs = g .mcs;
   resource = g .resource;
   «reference_ndi» = reference-set (g .reception) (p .«reference_ndi»);
-  «awaits_answer» = p .«awaits_answer»
+  «awaits_answer» = p .«awaits_answer»;
 }
 
 -- CURRENT_TX_NB is counted in a synchronous cell, by each retransmission, sent or not
@@ -100,7 +100,7 @@ adapted su g p = record {
   mcs = cond (leb (g .mcs) 28) (g .mcs) (p .mcs);
   resource = g .resource;
   «reference_ndi» = reference-set (g .reception) (p .«reference_ndi»);
-  «awaits_answer» = p .«awaits_answer»
+  «awaits_answer» = p .«awaits_answer»;
 }
 
 -- A non-adaptive retransmission.
@@ -114,7 +114,7 @@ repeated su p = record {
   mcs = p .mcs;
   resource = p .resource;
   «reference_ndi» = p .«reference_ndi»;
-  «awaits_answer» = p .«awaits_answer»
+  «awaits_answer» = p .«awaits_answer»;
 }
 
 -- A transmission goes on the air unless an ACK keeps it back, or a measurement gap one that is not from Msg3: acknowledged?, gap?
@@ -132,7 +132,7 @@ advanced su p = record {
   mcs = p .mcs;
   resource = p .resource;
   «reference_ndi» = p .«reference_ndi»;
-  «awaits_answer» = synchronous (su .kind) || p .«awaits_answer»
+  «awaits_answer» = synchronous (su .kind) || p .«awaits_answer»;
 }
 
 -- the maximum number of transmissions of a packet: from Msg3?

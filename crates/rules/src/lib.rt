@@ -4,5 +4,4 @@ ghost use Rattle.rules.specs.Worked.{Worked-runs};
 // The worked runs follow from the rules.
 pub fn worked_runs_stand()
     ensures { λ _. ⌜ Worked-runs ⌝ }
-{
-}
+{}

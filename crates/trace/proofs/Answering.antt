@@ -53,4 +53,4 @@ before-set-up q s records v v₁ v₂ x t ls ls′ el eq ef es e₁ e₂ h =
     e₂
     ∙ ap (λ z. v₁ ++ answers-from z ls′) (es ∙ opened-at-first q records ef)
     ∙ moved v v₁ setup-text (answers-from (at-first (equipment-of q) records) ls′) t e₁
-      (ap (λ z. v ++ answers-by z records (answers-before records ls′) ls′) eq ∙ ap (λ z. v ++ answers-before records z) (sym el) ∙ h)
+    (ap (λ z. v ++ answers-by z records (answers-before records ls′) ls′) eq ∙ ap (λ z. v ++ answers-before records z) (sym el) ∙ h)

@@ -16,6 +16,7 @@ front xs k n e = go (order n (length xs))
   where
     order : (a b : ℕ) → (a ≤ b) ⊎ (b ≤ a)
     order a b = search arith
+
     go : (n ≤ length xs) ⊎ (length xs ≤ n) → take (k - 0) xs ≡ take n xs
     go (inl h) = let z : k - 0 ≡ n = omega arith in ap (λ x. take x xs) z
     go (inr h) = take-all (k - 0) xs (omega arith) ∙ sym (take-all n xs h)

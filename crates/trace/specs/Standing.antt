@@ -73,7 +73,7 @@ at-first q records = record {
   offset = q .offset;
   memory = replicate 5805 0;
   radio = record { count = 0; latest = None; capacity = 2 ^ 48 };
-  left = records
+  left = records;
 }
 
 abbrev pub refused : Refusal → Standing → Answered
@@ -86,7 +86,7 @@ replied (Err e) = Refused e
 abbrev pub after-answer : Standing → After (List ℕ) (Result Reply Refusal) → Answered
 after-answer s x = record {
   answer = replied (x .answer);
-  standing = record { setup = s .setup; state = x .state; period = s .period; offset = s .offset; memory = x .memory; radio = x .radio; left = x .source }
+  standing = record { setup = s .setup; state = x .state; period = s .period; offset = s .offset; memory = x .memory; radio = x .radio; left = x .source };
 }
 
 -- a subframe frame: the call over the mailbox, the book and the pattern
@@ -102,7 +102,7 @@ filed a (Err e) = Refused e
 abbrev pub after-filing : Standing → Answer → Filed → Answered
 after-filing s a x = record {
   answer = filed a (x .answer);
-  standing = record { setup = s .setup; state = x .state; period = s .period; offset = s .offset; memory = x .memory; radio = s .radio; left = s .left }
+  standing = record { setup = s .setup; state = x .state; period = s .period; offset = s .offset; memory = x .memory; radio = s .radio; left = s .left };
 }
 
 -- what a line is answered, by what it was read as; a second set-up is no frame

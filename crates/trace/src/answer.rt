@@ -7,7 +7,6 @@ ghost use Rattle.std.specs.Vec.{made};
 ghost use Rattle.frames.specs.Lines.{lines-of};
 ghost use Rattle.trace.specs.Answers.{answers-from, answers};
 ghost use Rattle.trace.specs.Sessions.{standing-of};
-
 use crate::session::Session;
 use crate::session::frames_in::equip;
 use crate::text::refusal_onto;
@@ -38,7 +37,12 @@ fn answer_all(heap: Global, input: &[u8]) -> Result<Vec<u8>, AllocError>
         match equip(line) {
             Ok(equipped) => {
                 setup_onto(&mut out)?;
-                run(heap, Session::new(equipped, records.as_slice()), lines, &mut out)?;
+                run(
+                    heap,
+                    Session::new(equipped, records.as_slice()),
+                    lines,
+                    &mut out,
+                )?;
                 return Ok(out);
             }
             Err(refusal) => refusal_onto(&mut out, refusal)?,
@@ -48,7 +52,12 @@ fn answer_all(heap: Global, input: &[u8]) -> Result<Vec<u8>, AllocError>
 }
 
 // Answers the lines after the set-up.
-fn run(heap: Global, mut session: Session<'_>, mut lines: Lines<'_>, out: &mut Vec<u8>) -> Result<(), AllocError>
+fn run(
+    heap: Global,
+    mut session: Session<'_>,
+    mut lines: Lines<'_>,
+    out: &mut Vec<u8>,
+) -> Result<(), AllocError>
     ensures { λ r. ⌜ made r (λ _. vec-items (now (out .exit)) ≡ vec-items (now (out .entry)) ++ answers-from (standing-of (session .entry)) (lines-of (now (lines .entry .rest)))) ⌝ }
 {
     while let Some(line) = lines.next() {

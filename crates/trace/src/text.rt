@@ -8,7 +8,6 @@ ghost use Rattle.std.specs.Vec.{made};
 ghost use Rattle.terms.specs.Sendings.{sending-of};
 ghost use Rattle.below.specs.Mailbox.{told-of};
 ghost use Rattle.trace.specs.Texts.{reply-bytes, heading, line-text, slot-text, reply-text, refusal-text, setup-text, answer-text};
-
 use crate::session::Answer;
 use hex::encode_onto;
 use std::alloc::AllocError;
@@ -29,7 +28,13 @@ fn line_onto(out: &mut Vec<u8>, bytes: &[u8]) -> Result<(), AllocError>
 fn bytes_of_reply(reply: Reply) -> [u8; 5]
     ensures { λ r. ⌜ r ≡ reply-bytes reply ⌝ }
 {
-    [2, reply.outcome.number(), reply.process, reply.version.0, u8::from(reply.given_up)]
+    [
+        2,
+        reply.outcome.number(),
+        reply.process,
+        reply.version.0,
+        u8::from(reply.given_up),
+    ]
 }
 
 // The 16 bytes of a slot before the packet.
@@ -69,7 +74,11 @@ fn slot_onto(out: &mut Vec<u8>, instruction: Instruction<'_>) -> Result<(), Allo
 }
 
 // Appends a reply and, after a sending, the slot of the latest instruction.
-fn reply_onto(out: &mut Vec<u8>, reply: Reply, latest: Option<Instruction<'_>>) -> Result<(), AllocError>
+fn reply_onto(
+    out: &mut Vec<u8>,
+    reply: Reply,
+    latest: Option<Instruction<'_>>,
+) -> Result<(), AllocError>
     ensures { λ r. ⌜ made r (λ _. vec-items (now (out .exit)) ≡ vec-items (now (out .entry)) ++ reply-text reply (told-of (latest .entry))) ⌝ }
 {
     line_onto(out, &bytes_of_reply(reply))?;
@@ -94,7 +103,11 @@ pub(crate) fn setup_onto(out: &mut Vec<u8>) -> Result<(), AllocError>
 }
 
 // Appends an answer; the latest instruction of the radio goes with a sending.
-pub(crate) fn answer_onto(out: &mut Vec<u8>, answer: Answer, latest: Option<Instruction<'_>>) -> Result<(), AllocError>
+pub(crate) fn answer_onto(
+    out: &mut Vec<u8>,
+    answer: Answer,
+    latest: Option<Instruction<'_>>,
+) -> Result<(), AllocError>
     ensures { λ r. ⌜ made r (λ _. vec-items (now (out .exit)) ≡ vec-items (now (out .entry)) ++ answer-text answer (told-of (latest .entry))) ⌝ }
 {
     match answer {

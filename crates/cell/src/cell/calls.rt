@@ -13,7 +13,6 @@ ghost use Rattle.runs.specs.Promise.{Keeps-promise};
 ghost use Rattle.cell.specs.Calls.{after-done, after-subframe, after-deposit, after-withdrawal};
 ghost use Rattle.cell.specs.Promises.{world, subframe-over, latest-after};
 ghost use Rattle.cell.specs.Cells.{parts, with-fresh-state};
-
 use crate::cell::Cell;
 use crate::entity::decide;
 use crate::entity::fetch;
@@ -56,7 +55,16 @@ const NO_PROCESS: Reply = Reply {
 };
 
 // The subframe of process `k`, once the answer was heard and the grant in force is known.
-fn turn<R: Radio, S: Source>(setup: Setup, state: &mut State, memory: &mut [u8], radio: &mut R, source: &mut S, gap: bool, g: Option<GrantInForce>, k: u8) -> Reply
+fn turn<R: Radio, S: Source>(
+    setup: Setup,
+    state: &mut State,
+    memory: &mut [u8],
+    radio: &mut R,
+    source: &mut S,
+    gap: bool,
+    g: Option<GrantInForce>,
+    k: u8,
+) -> Reply
     requires sound { ⌜ Sound setup (now state) ⌝ }
     requires sized { ⌜ Sized-grant g ⌝ }
     requires named { ⌜ Named-below (setup .kind) g ⌝ }
@@ -79,7 +87,13 @@ fn turn<R: Radio, S: Source>(setup: Setup, state: &mut State, memory: &mut [u8],
 
 impl Cell {
     // Sets a cell up, or refuses by the first question that is answered no.
-    pub fn set_up(kind: u8, max_harq_tx: u8, max_harq_msg3_tx: u8, interval: u16, start: u64) -> Result<Cell, Refusal>
+    pub fn set_up(
+        kind: u8,
+        max_harq_tx: u8,
+        max_harq_msg3_tx: u8,
+        interval: u16,
+        start: u64,
+    ) -> Result<Cell, Refusal>
         ensures { λ r. ⌜ parts r ≡ with-fresh-state (set-up kind «max_harq_tx» «max_harq_msg3_tx» interval start) ⌝ }
     {
         let Some(kind) = CellKind::from_number(kind) else {
@@ -108,7 +122,15 @@ impl Cell {
     }
 
     // The subframe that comes next: an answer and a grant, if they came, over the radio, the source and the gap plan that stand below.
-    pub fn subframe<R: Radio, S: Source, G: GapPlan>(&mut self, memory: &mut [u8], radio: &mut R, source: &mut S, gaps: &G, answer: Option<Feedback>, grant: Option<Grant>) -> Result<Reply, Refusal>
+    pub fn subframe<R: Radio, S: Source, G: GapPlan>(
+        &mut self,
+        memory: &mut [u8],
+        radio: &mut R,
+        source: &mut S,
+        gaps: &G,
+        answer: Option<Feedback>,
+        grant: Option<Grant>,
+    ) -> Result<Reply, Refusal>
         ensures whole { λ r. ⌜ record { answer = r; state = now (self .exit) .state; memory = now (memory .exit); radio = radioed (now (radio .exit)); source = now (source .exit) } ≡ after-subframe offers used (now (self .entry) .setup) (now (self .entry) .state) (now (memory .entry)) (radioed (now (radio .entry))) (now (source .entry)) (covered (now (gaps .entry)) (now (self .entry) .state .clock)) answer grant ⌝ }
         ensures setup { λ r. ⌜ now (self .exit) .setup ≡ now (self .entry) .setup ⌝ }
         ensures promise { λ r. ⌜ Keeps-promise (now (self .entry) .setup) (world (now (self .entry) .state) (now (memory .entry)) (radioed (now (radio .entry)) .count)) (subframe-over answer grant (covered (now (gaps .entry))) (offers (now (source .entry))) (radioed (now (radio .entry)))) (world (now (self .exit) .state) (now (memory .exit)) (radioed (now (radio .exit)) .count)) ⌝ }
@@ -117,7 +139,15 @@ impl Cell {
     {
         let clock = self.state.clock;
         let gap = gaps.covers(clock);
-        ask(self.setup, &self.state, memory.len(), radio.ready(), gap, answer, grant)?;
+        ask(
+            self.setup,
+            &self.state,
+            memory.len(),
+            radio.ready(),
+            gap,
+            answer,
+            grant,
+        )?;
         take_answer(self.setup, &mut self.state, gap, answer);
         let g = force(self.setup, clock, self.state.configured, grant);
         self.state.configured = store(clock, self.state.configured, grant);
@@ -125,10 +155,19 @@ impl Cell {
             self.state.clock += 1;
             return Ok(NO_PROCESS);
         };
-        Ok(turn(self.setup, &mut self.state, memory, radio, source, gap, g, k))
+        Ok(turn(
+            self.setup,
+            &mut self.state,
+            memory,
+            radio,
+            source,
+            gap,
+            g,
+            k,
+        ))
     }
 
-    // Puts a packet into the Msg3 buffer, to be sent by the next Random Access Response grant. The clock stays.
+    // Puts a packet into the Msg3 buffer. Until a withdrawal each Random Access Response grant sends it. The clock stays.
     pub fn deposit(&mut self, memory: &mut [u8], packet: &[u8]) -> Result<(), Refusal>
         ensures whole { λ r. ⌜ record { answer = r; state = now (self .exit) .state; memory = now (memory .exit) } ≡ after-deposit (now (self .entry) .state) (now (memory .entry)) (now (packet .entry)) ⌝ }
         ensures setup { λ r. ⌜ now (self .exit) .setup ≡ now (self .entry) .setup ⌝ }
@@ -149,19 +188,5 @@ impl Cell {
         ask_of_withdrawal(self.state.msg3)?;
         self.state.msg3 = None;
         Ok(())
-    }
-
-    // Packets begun and sendings made since set-up.
-    pub fn tally(&self) -> Tally
-        ensures { λ r. ⌜ r ≡ now (self .entry) .state .tally ⌝ }
-    {
-        self.state.tally
-    }
-
-    // The subframe that comes next.
-    pub fn clock(&self) -> u64
-        ensures { λ r. ⌜ r ≡ now (self .entry) .state .clock ⌝ }
-    {
-        self.state.clock
     }
 }

@@ -11,7 +11,6 @@ ghost use Rattle.trace.specs.Standing.{admitted, equipped, replied, called, fi
 ghost use Rattle.trace.specs.Answers.{text-of};
 ghost use Rattle.trace.specs.declared.session.Answer.the-variants.{Deposited, Withdrawn};
 ghost use Rattle.trace.specs.Sessions.{equipment-in, Fresh-in, opened, standing-of};
-
 use crate::session::Answer;
 use crate::session::Equipped;
 use crate::session::Session;
@@ -39,7 +38,13 @@ fn admit(f: SetupFrame) -> Result<Equipped, Refusal>
     ensures equipment { λ r. ⌜ equipment-in r ≡ admitted f ⌝ }
     ensures fresh { λ r. ⌜ Fresh-in r ⌝ }
 {
-    let cell = Cell::set_up(f.kind, f.max_harq_tx, f.max_harq_msg3_tx, f.interval, f.start)?;
+    let cell = Cell::set_up(
+        f.kind,
+        f.max_harq_tx,
+        f.max_harq_msg3_tx,
+        f.interval,
+        f.start,
+    )?;
     let gaps = Pattern::new(f.period, f.offset)?;
     Ok(Equipped { cell, gaps })
 }
@@ -99,7 +104,14 @@ impl<'a> Session<'a> {
     fn subframe(&mut self, answer: Option<Feedback>, grant: Option<Grant>) -> Answer
         ensures { λ r. ⌜ record { answer = r; standing = standing-of (now (self .exit)) } ≡ called (standing-of (now (self .entry))) answer grant ⌝ }
     {
-        let result = self.cell.subframe(&mut self.memory, &mut self.radio, &mut self.book, &self.gaps, answer, grant);
+        let result = self.cell.subframe(
+            &mut self.memory,
+            &mut self.radio,
+            &mut self.book,
+            &self.gaps,
+            answer,
+            grant,
+        );
         reply_or_refusal(result)
     }
 
@@ -135,7 +147,12 @@ impl<'a> Session<'a> {
     }
 
     // Works a line, and appends the text of its answer.
-    pub(crate) fn answer_line(&mut self, heap: Global, line: &[u8], out: &mut Vec<u8>) -> Result<(), AllocError>
+    pub(crate) fn answer_line(
+        &mut self,
+        heap: Global,
+        line: &[u8],
+        out: &mut Vec<u8>,
+    ) -> Result<(), AllocError>
         ensures session { λ r. ⌜ made r (λ _. standing-of (now (self .exit)) ≡ answered (standing-of (now (self .entry))) (reads (now (line .entry))) .standing) ⌝ }
         ensures text { λ r. ⌜ made r (λ _. vec-items (now (out .exit)) ≡ vec-items (now (out .entry)) ++ text-of (answered (standing-of (now (self .entry))) (reads (now (line .entry))))) ⌝ }
     {

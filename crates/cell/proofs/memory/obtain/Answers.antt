@@ -15,5 +15,5 @@ returns-in-Some g c =
       fits = msg3-fits (g .S·Source .offers (c .args .source .now)) (msg3-taken (c .args .g .reception) (c .args .msg3)) (c .in-Some .length) (c .args .g .size) (c .in-Some .ensures tt);
       packet = msg3-packet (c .args .g) (c .args .msg3) (c .args .memory .now) (g .S·Source .offers (c .args .source .now)) (c .args .k) (c .in-Some .length) (c .in-Some .ensures tt) (part-length (c .args .memory .now) 8 (c .in-Some .length) (omega arith));
       memory = c .copy-msg3 .ensures ∙ msg3-memory (c .args .g) (c .args .msg3) (c .args .memory .now) (g .S·Source .offers (c .args .source .now)) (c .args .k) (c .in-Some .length) (c .in-Some .ensures tt);
-      source = msg3-source (g .S·Source .offers) (g .S·Source .used) (c .args .source .now) (msg3-taken (c .args .g .reception) (c .args .msg3)) (c .in-Some .length) (c .args .g .size) (c .in-Some .ensures tt)
+      source = msg3-source (g .S·Source .offers) (g .S·Source .used) (c .args .source .now) (msg3-taken (c .args .g .reception) (c .args .msg3)) (c .in-Some .length) (c .args .g .size) (c .in-Some .ensures tt);
     }

@@ -1,6 +1,5 @@
-use mathlib.Core.Path.{refl}
 use Rattle.frames.proofs.Joining.{joins, frees}
 use Rattle.frames.proofs.lines.lines_stand.Needs as need
 
 pub returns : need.returns
-returns c = record { value = refl; lines = λ t. (joins t, frees t) }
+returns c = λ t. (joins t, frees t)

@@ -6,6 +6,37 @@ pub ghost-result : need.ghost-result
 ghost-result c =
     let su : Setup = record { kind = c .in-Some .kind; «max_harq_tx» = c .args .max-harq-tx; «max_harq_msg3_tx» = c .args .max-harq-msg3-tx; interval = c .args .interval; start = c .args .start } in
     let b = bounds-asked su (c .in-Continue-ask-of-setup .ensures tt) in
-    let z = sound-fresh su (c .args .start) b in
-    (b .least, (b .most, (b .least3, (b .most3, (z .packets, (z .sendings, (z .smallest, (z .largest, (z .shortest, (z .longest, (z .repeats,
-    ((λ k l. z .good k l .index), ((λ k l. z .good k l .count), ((λ k l. z .good k l .not-empty), ((λ k l. z .good k l .not-long), ((λ k l. z .good k l .limit), tt))))))))))))))))
+    let z = sound-fresh su (c .args .start) b in (
+      b .least,
+      (
+        b .most,
+        (
+          b .least3,
+          (
+            b .most3,
+            (
+              z .packets,
+              (
+                z .sendings,
+                (
+                  z .smallest,
+                  (
+                    z .largest,
+                    (
+                      z .shortest,
+                      (
+                        z .longest,
+                        (
+                          z .repeats,
+                          ((λ k l. z .good k l .index), ((λ k l. z .good k l .count), ((λ k l. z .good k l .not-empty), ((λ k l. z .good k l .not-long), ((λ k l. z .good k l .limit), tt))))),
+                        ),
+                      ),
+                    ),
+                  ),
+                ),
+              ),
+            ),
+          ),
+        ),
+      ),
+    )

@@ -13,8 +13,8 @@ use Rattle.cell.proofs.cell.Cell.subframe.Needs as need
 pub turn-requires : need.turn-requires
 turn-requires g c κs =
     let z = prepared (c .args .self .now .setup) (c .args .self .now .state) (c .args .memory .now) (c .covers-gap .result) (c .args .answer) (c .args .grant) (c .take-answer .last .state) (c .force-g .result) (c .store-self .result) (Some (c .in-Some .k))
-        (c .take-answer .ensures) (c .force-g .ensures) (c .store-self .ensures) (c .in-Some .ensures tt) (c .ready .result) (c .in-Continue-ask .ensures tt) (c .in-Some .k) refl
-        (sound-cell (c .args .self .now)) in
+    (c .take-answer .ensures) (c .force-g .ensures) (c .store-self .ensures) (c .in-Some .ensures tt) (c .ready .result) (c .in-Continue-ask .ensures tt) (c .in-Some .k) refl
+    (sound-cell (c .args .self .now)) in
     record { sound = z .sound; sized = z .sized; named = z .named; within = (z .whole, (z .bound, z .clock)); room = sym (c .ready .ensures) ∙ z .room }
 
 pub returns-in-Break-ask : need.returns-in-Break-ask
@@ -34,7 +34,7 @@ returns-in-Break-ask g c =
       setup = refl;
       promise = refused-keeps o u su st m r (c .args .source .now) plan (c .args .answer) (c .args .grant) e no;
       latest = refused-latest o u su st m r (c .args .source .now) plan (c .args .answer) (c .args .grant) e no;
-      lender = refl
+      lender = refl;
     })
 
 pub returns-in-rest : need.returns-in-rest
@@ -57,7 +57,7 @@ returns-in-rest g c =
       setup = refl;
       promise = subframe-keeps o u su st m r (c .args .source .now) plan (c .args .answer) (c .args .grant) fits _ e;
       latest = subframe-latest o u su st m r (c .args .source .now) plan (c .args .answer) (c .args .grant) fits _ e;
-      lender = refl
+      lender = refl;
     }
 
 pub returns : need.returns
@@ -80,5 +80,5 @@ returns g c =
       setup = refl;
       promise = subframe-keeps o u su st m r (c .args .source .now) plan (c .args .answer) (c .args .grant) fits _ e;
       latest = subframe-latest o u su st m r (c .args .source .now) plan (c .args .answer) (c .args .grant) fits _ e;
-      lender = c .turn .ensures .lender
+      lender = c .turn .ensures .lender;
     }

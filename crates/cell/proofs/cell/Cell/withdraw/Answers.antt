@@ -9,12 +9,12 @@ returns-in-Break-ask-of-withdrawal c =
     rw (p .1, p .2) (record {
       whole = λ m. withdrawal-refused (c .args .self .now .state) m (c .in-Break-ask-of-withdrawal .field-0 .0) (c .in-Break-ask-of-withdrawal .ensures tt);
       setup = refl;
-      promise = λ m n. withdrawal-keeps (c .args .self .now .setup) (c .args .self .now .state) m n _ (withdrawal-refused (c .args .self .now .state) m (c .in-Break-ask-of-withdrawal .field-0 .0) (c .in-Break-ask-of-withdrawal .ensures tt))
+      promise = λ m n. withdrawal-keeps (c .args .self .now .setup) (c .args .self .now .state) m n _ (withdrawal-refused (c .args .self .now .state) m (c .in-Break-ask-of-withdrawal .field-0 .0) (c .in-Break-ask-of-withdrawal .ensures tt));
     })
 
 pub returns : need.returns
 returns c = record {
   whole = λ m. withdrawal-made (c .args .self .now .state) m (c .in-Continue-ask-of-withdrawal .ensures tt);
   setup = refl;
-  promise = λ m n. withdrawal-keeps (c .args .self .now .setup) (c .args .self .now .state) m n _ (withdrawal-made (c .args .self .now .state) m (c .in-Continue-ask-of-withdrawal .ensures tt))
+  promise = λ m n. withdrawal-keeps (c .args .self .now .setup) (c .args .self .now .state) m n _ (withdrawal-made (c .args .self .now .state) m (c .in-Continue-ask-of-withdrawal .ensures tt));
 }
