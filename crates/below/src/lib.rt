@@ -1,4 +1,4 @@
-// Three kinds of what stands below a cell: a radio, a source and a gap plan.
+// Kinds of what stands below a cell: radios, sources and gap plans.
 pub mod book;
 pub mod mailbox;
 pub mod pattern;

@@ -7,6 +7,7 @@ pub mod Tied
 pub mod Follow
 pub mod Sound
 pub mod Runs
+pub mod Exactly
 pub mod Main
 pub mod Examples
 pub mod Offers

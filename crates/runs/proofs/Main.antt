@@ -17,6 +17,7 @@ use Rattle.runs.specs.Runs.{World, Call, step, world-after, events-of, Past, s
 use Rattle.runs.specs.Stays.{Met, Stay, Log, recorded-all, empty-log, surroundings, met-after, sent-below, over-below, passing-of-run, passing-of-stays}
 use Rattle.runs.specs.Promise.{stays-of, Counted, Carries, Kept, surroundings-between, Independent, All-kept, Promise, Keeps-promise}
 use Rattle.runs.proofs.Life.{Life, life, life-limited, life-carries, ordered-after, Agrees, life-below}
+use Rattle.runs.proofs.Exactly.{exact-of}
 use Rattle.runs.proofs.Runs.{world-with}
 use Rattle.runs.proofs.Questions.{Ready, ready}
 use Rattle.runs.proofs.Tied.{Scene, scene, life-of, Good}
@@ -121,6 +122,7 @@ independent p a p′ a′ same s s′ g g′ began gap t met = record {
 -- the promise
 pub promise : (p : Past) → Accepted (p .setup) → Promise p
 promise p a = record {
+  exact = exact-of p (counted p a);
   counted = counted p a;
   kept = kept p a;
   alike = λ p′ same.

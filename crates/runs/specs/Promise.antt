@@ -11,10 +11,16 @@ use Rattle.terms.specs.Sendings.{Sending}
 use Rattle.rules.specs.Process.{synchronous, maximum}
 use Rattle.rules.specs.Subframe.{Beginning}
 use Rattle.runs.specs.Runs.{World, Call, Past, world-now, happened, Accepted, past-with}
-use Rattle.runs.specs.Stays.{Met, Stay, stays, surroundings, met-between, sent-below, over-below, repetitions, passing-of-run, passing-of-stays, sendings-of-stays}
+use Rattle.runs.specs.Stays.{Met, Stay, stays, surroundings, met-between, sent-below, over-below, repetitions, passing-of-run, passing-of-stays, sendings-of-stays, sendings-of-run, starts-of-run}
 
 abbrev pub stays-of : Past → List Stay
 stays-of p = stays (happened p)
+
+-- The radio took what the rules sent, and nothing else, and the tally tells the same. What happened is, by definition, what the rules make of the calls.
+pub record Exact (p : Past) : Type 0 where
+  pub taken : world-now p .count ≡ p .count + sendings-of-run (happened p)
+  pub sendings : world-now p .state .tally .sendings ≡ sendings-of-run (happened p)
+  pub packets : world-now p .state .tally .packets ≡ starts-of-run (happened p)
 
 -- Nothing is sent beside the stays, nothing twice, and nothing is left out of the figures.
 pub record Counted (p : Past) : Type 0 where
@@ -73,11 +79,15 @@ All-alike p = (p′ : Past) → p′ .setup ≡ p .setup → All (λ (s : Stay).
 
 -- The promise of a past.
 pub record Promise (p : Past) : Type 0 where
+  pub exact : Exact p
   pub counted : Counted p
   pub kept : All-kept p
   pub alike : All-alike p
 
 -- the laws one by one
+abbrev pub Runs-exact : Type 0
+Runs-exact = (p : Past) → Accepted (p .setup) → Exact p
+
 abbrev pub Stays-counted : Type 0
 Stays-counted = (p : Past) → Accepted (p .setup) → Counted p
 

@@ -174,3 +174,17 @@ passing-of-stays f = total (λ s. passing f (s .sendings))
 -- how many sendings stays have
 abbrev pub sendings-of-stays : List Stay → ℕ
 sendings-of-stays = total (λ s. length (s .sendings))
+
+-- how many sendings a run has
+abbrev pub sendings-of-run : List Event → ℕ
+sendings-of-run es = passing-of-run (λ x. true) es
+
+-- how many new transmissions a run has
+abbrev pub starts-of-run : List Event → ℕ
+starts-of-run [] = 0
+starts-of-run (answers k t a gap ∷ es) = starts-of-run es
+starts-of-run (meets k t g gap starved ∷ es) = starts-of-run es
+starts-of-run (starts b ∷ es) = 1 + starts-of-run es
+starts-of-run (sends x ∷ es) = starts-of-run es
+starts-of-run (flushes k t ∷ es) = starts-of-run es
+starts-of-run (deposits b ∷ es) = starts-of-run es

@@ -1,6 +1,11 @@
 // Whole runs of a cell: what holds of every list of calls from set-up on stands in specs/. Each function here carries a theorem about them.
-ghost use Rattle.runs.specs.Promise.{Stays-counted, Stays-kept, Stays-alike, Promise-holds};
+ghost use Rattle.runs.specs.Promise.{Runs-exact, Stays-counted, Stays-kept, Stays-alike, Promise-holds};
 ghost use Rattle.runs.specs.Examples.{Examples};
+
+// The radio took what the rules sent, and nothing else.
+pub fn runs_exact()
+    ensures { λ _. ⌜ Runs-exact ⌝ }
+{}
 
 // The radio's count and the tally are those of the stays, and each sending belongs to exactly one stay.
 pub fn stays_counted()
@@ -17,7 +22,7 @@ pub fn stays_alike()
     ensures { λ _. ⌜ Stays-alike ⌝ }
 {}
 
-// All three laws hold of every past whose set-up was accepted.
+// All four laws hold of every past whose set-up was accepted.
 pub fn promise_holds()
     ensures { λ _. ⌜ Promise-holds ⌝ }
 {}
