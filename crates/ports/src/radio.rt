@@ -1,4 +1,5 @@
 ghost use mathlib.Core.Path.{_≡_};
+ghost use mathlib.Core.Bool.{false};
 ghost use Prim.Native.Nat.{ℕ};
 ghost use Rattle.terms.specs.Sendings.{sending-of};
 ghost use Rattle.ports.specs.Radio.{Radioed, has-room, accepts, after-take};
@@ -20,5 +21,6 @@ pub trait Radio {
     fn take(&mut self, instruction: Instruction<'_>) -> bool
         ensures answer { λ r. ⌜ r ≡ accepts (radioed (now (self .entry))) (sending-of (instruction .entry)) ⌝ }
         ensures after { λ r. ⌜ radioed (now (self .exit)) ≡ after-take (radioed (now (self .entry))) (sending-of (instruction .entry)) ⌝ }
+        ensures refused { λ r. ⌜ (r ≡ false → now (self .exit) ≡ now (self .entry)) ⌝ }
         ensures lender { λ r. ⌜ lender (now (self .exit)) ≡ lender (now (self .entry)) ⌝ };
 }

@@ -21,6 +21,7 @@ use Rattle.terms.specs.Numbers.{outcome-number, refusal-number}
 use Rattle.terms.specs.Sendings.{Sending}
 use Rattle.rules.specs.Setup.{set-up, fresh-state}
 use Rattle.rules.specs.Subframe.{Done, one-if, subframe}
+use Rattle.rules.specs.Msg3.{Left, deposit, withdrawal}
 
 -- what a subframe call brings
 pub record Coming : Type 0 where
@@ -39,6 +40,8 @@ pub data Row : Type 0 where
   replied : ℕ → ℕ → ℕ → ℕ → Option Aired → Row
   -- subframe, number of the refusal
   refused : ℕ → ℕ → Row
+  -- a deposit or a withdrawal was accepted: subframe
+  filed : ℕ → Row
 
 abbrev pub aired : Option Sending → Option Aired
 aired None = None
@@ -56,12 +59,40 @@ abbrev pub memory-left : List ℕ → Result Done Refusal → List ℕ
 memory-left m (Ok d) = d .memory
 memory-left m (Err e) = m
 
--- packets wait for every size; each byte of one that is filled in at t is t
-abbrev pub rows : Setup → (ℕ → Bool) → State → List ℕ → List Coming → List Row
-rows su gaps st m [] = []
-rows su gaps st m (c ∷ cs) =
-    let d = subframe su st m (record { ready = true; gap = gaps (st .clock); answer = c .answer; grant = c .grant; offers = λ n. Some (replicate n (st .clock)) }) in
-    row (st .clock) d ∷ rows su gaps (state-after st d) (memory-left m d) cs
+-- a call: a subframe, with whether the radio can take one more, a Msg3 deposit or a withdrawal
+pub data Move : Type 0 where
+  comes : Bool → Coming → Move
+  deposits : List ℕ → Move
+  withdraws : Move
+
+abbrev pub msg3-row : ℕ → Result Left Refusal → Row
+msg3-row t (Ok l) = filed t
+msg3-row t (Err e) = refused t (refusal-number e)
+
+abbrev pub msg3-state : State → Result Left Refusal → State
+msg3-state st (Ok l) = l .state
+msg3-state st (Err e) = st
+
+abbrev pub msg3-memory : List ℕ → Result Left Refusal → List ℕ
+msg3-memory m (Ok l) = l .memory
+msg3-memory m (Err e) = m
+
+-- what follows from some calls; packets wait for every size, and each byte of one that is filled in at t is t
+abbrev pub moved : Setup → (ℕ → Bool) → State → List ℕ → List Move → List Row
+moved su gaps st m [] = []
+moved su gaps st m (comes ready c ∷ cs) =
+    let d = subframe su st m (record { ready = ready; gap = gaps (st .clock); answer = c .answer; grant = c .grant; offers = λ n. Some (replicate n (st .clock)) }) in
+    row (st .clock) d ∷ moved su gaps (state-after st d) (memory-left m d) cs
+moved su gaps st m (deposits b ∷ cs) =
+    let l = deposit st m b in
+    msg3-row (st .clock) l ∷ moved su gaps (msg3-state st l) (msg3-memory m l) cs
+moved su gaps st m (withdraws ∷ cs) =
+    let l = withdrawal st m in
+    msg3-row (st .clock) l ∷ moved su gaps (msg3-state st l) (msg3-memory m l) cs
+
+abbrev pub moves : Result Setup Refusal → (ℕ → Bool) → List Move → List Row
+moves (Ok su) gaps cs = moved su gaps (fresh-state (su .start)) (replicate 5805 0) cs
+moves (Err e) gaps cs = refused 0 (refusal-number e) ∷ []
 
 abbrev pub nothing : Coming
 nothing = record { answer = None; grant = None }
@@ -75,9 +106,13 @@ granted g = record { answer = None; grant = Some g }
 abbrev pub acknowledged : Coming
 acknowledged = record { answer = Some Ack; grant = None }
 
+-- subframes over a radio that can take one more
+abbrev pub come : List Coming → List Move
+come [] = []
+come (c ∷ cs) = comes true c ∷ come cs
+
 abbrev pub played : Result Setup Refusal → (ℕ → Bool) → List Coming → List Row
-played (Ok su) gaps cs = rows su gaps (fresh-state (su .start)) (replicate 5805 0) cs
-played (Err e) gaps cs = refused 0 (refusal-number e) ∷ []
+played su gaps cs = moves su gaps (come cs)
 
 abbrev pub no-gaps : ℕ → Bool
 no-gaps t = false
@@ -170,6 +205,53 @@ Configured-grant-recurs =
     (played (plain 8) no-gaps (granted activation ∷ quiet 8) ≡ (sent 0 0 0 ∷ idle-7 1) ++ (sent 8 2 0 ∷ []))
     × (played (plain 8) no-gaps ((granted activation ∷ quiet 3) ++ (acknowledged ∷ quiet 4)) ≡ (sent 0 0 0 ∷ idle-7 1) ++ (sent 8 0 8 ∷ []))
 
+-- a grant of another kind
+abbrev pub of-kind : ℕ → Grant
+of-kind kind = record { kind = kind; ndi = 0; mcs = 5; version = 0; process = 0; repetitions = 1; resource = 7; size = 2 }
+
+-- a configured grant of interval 10 displaces a packet that is not acknowledged.
+abbrev pub Displaced-at-10 : Type 0
+Displaced-at-10 =
+    played (plain 10) no-gaps (granted activation ∷ nothing ∷ granted (c-rnti 5) ∷ quiet 8)
+    ≡ sent 0 0 0 ∷ unsent 1 0 ∷ sent 2 0 2 ∷ unsent 3 0 ∷ unsent 4 0 ∷ unsent 5 0 ∷ unsent 6 0 ∷ unsent 7 0 ∷ sent 8 2 0 ∷ unsent 9 0 ∷ sent 10 0 10 ∷ []
+
+-- a release: the grant does not recur
+abbrev pub Released : Type 0
+Released =
+    played (plain 8) no-gaps ((granted activation ∷ quiet 3) ++ (acknowledged ∷ nothing ∷ nothing ∷ granted (of-kind 3) ∷ nothing ∷ []))
+    ≡ (sent 0 0 0 ∷ idle-7 1) ++ (unsent 8 5 ∷ [])
+
+-- the answer to a bundle falls in the last subframe of the next one, and in no other
+abbrev pub Bundle-answered : Type 0
+Bundle-answered =
+    played (set-up 1 6 3 0 0) no-gaps ((granted (c-rnti 5) ∷ quiet 5) ++ (acknowledged ∷ nothing ∷ acknowledged ∷ quiet 8) ++ (nothing ∷ []))
+    ≡ (sent 0 0 0 ∷ sent 1 2 0 ∷ sent 2 3 0 ∷ sent 3 1 0 ∷ unsent 4 0 ∷ unsent 5 0 ∷ refused 6 8 ∷ unsent 6 0 ∷ unsent 7 0 ∷ unsent 8 0 ∷ unsent 9 0 ∷ [])
+    ++ (unsent 10 0 ∷ unsent 11 0 ∷ unsent 12 0 ∷ unsent 13 0 ∷ unsent 14 0 ∷ unsent 15 0 ∷ unsent 16 5 ∷ [])
+
+-- a Temporary C-RNTI grant: nothing is held, and then a retransmission in version 0
+abbrev pub Temporary : Type 0
+Temporary =
+    played (plain 0) no-gaps (granted (of-kind 1) ∷ granted (c-rnti 5) ∷ quiet 7 ++ (granted (of-kind 1) ∷ []))
+    ≡ unsent 0 1 ∷ sent 1 0 1 ∷ unsent 2 0 ∷ unsent 3 0 ∷ unsent 4 0 ∷ unsent 5 0 ∷ unsent 6 0 ∷ unsent 7 0 ∷ unsent 8 0 ∷ sent 9 0 1 ∷ []
+
+-- the Msg3 buffer: one packet at a time, sent twice by its own maximum, in a gap too, and as often as it is asked for
+abbrev pub From-msg3 : Type 0
+From-msg3 =
+    moves (set-up 0 3 2 0 0) gaps-at-4
+    (withdraws ∷ deposits (9 ∷ []) ∷ deposits (8 ∷ []) ∷ comes true (granted (of-kind 4)) ∷ replicate 4 (comes true nothing)
+    ++ (comes true (granted (of-kind 4)) ∷ replicate 7 (comes true nothing) ++ (withdraws ∷ comes true (granted (of-kind 4)) ∷ [])))
+    ≡ refused 0 15 ∷ filed 0 ∷ refused 0 14 ∷ sent 0 0 9 ∷ unsent 1 0 ∷ unsent 2 0 ∷ unsent 3 0 ∷ unsent 4 0 ∷ sent 5 0 9 ∷ unsent 6 0 ∷ unsent 7 0 ∷ sent-last 8 2 9 ∷ unsent 9 0
+    ∷ unsent 10 0 ∷ unsent 11 0 ∷ unsent 12 0 ∷ filed 13 ∷ sent 13 0 13 ∷ []
+
+-- the first no is told: the radio is full, an answer is not due, the grant is wrong; and the clock has ended, before the radio is full
+abbrev pub First-no-told : Type 0
+First-no-told =
+    (moves (plain 0) no-gaps
+    (comes false (record { answer = Some Ack; grant = Some (c-rnti 32) }) ∷ comes true (record { answer = Some Ack; grant = Some (c-rnti 32) }) ∷ comes true (granted (c-rnti 32))
+    ∷ comes true (granted (c-rnti 29)) ∷ comes true nothing ∷ [])
+    ≡ refused 0 7 ∷ refused 0 8 ∷ refused 0 9 ∷ refused 0 12 ∷ unsent 0 0 ∷ [])
+    × (moves (set-up 0 3 3 0 281474976710655) no-gaps (comes true nothing ∷ comes false nothing ∷ []) ≡ unsent 281474976710655 0 ∷ refused 281474976710656 6 ∷ [])
+
 -- the table of worked runs
 abbrev pub Worked-runs : Type 0
-Worked-runs = Sent-three-times × Acknowledged-at-4 × Adapted-after-ack × Gap-counts-as-ack × Gap-keeps-version × In-bundles × Repetitions-run × Configured-grant-recurs
+Worked-runs = Sent-three-times × Acknowledged-at-4 × Adapted-after-ack × Gap-counts-as-ack × Gap-keeps-version × In-bundles × Repetitions-run × Configured-grant-recurs × Displaced-at-10 × Released × Bundle-answered × Temporary × From-msg3 × First-no-told

@@ -1,5 +1,5 @@
 -- The promise holds of every past whose set-up was accepted.
-use mathlib.Core.Bool.{Bool}
+use mathlib.Core.Bool.{Bool, true, false, cond}
 use mathlib.Core.List.{List, [], _∷_, _++_}
 use mathlib.Core.Path.{_≡_, refl, sym, ap, ap₂, _∙_, subst}
 use Prim.Native.Nat.{ℕ, _+_, _≤_, _<_}
@@ -78,12 +78,16 @@ module _ (p : Past) (accepted : Accepted (p .setup)) where
       su : Setup
       su = p .setup
 
+      maximum-by : (b : Bool) → maximum su b ≡ cond b (su .«max_harq_msg3_tx») (su .«max_harq_tx»)
+      maximum-by true = refl
+      maximum-by false = refl
+
       each : (s : Stay) → Good su now s → Kept su s
       each s g = record {
         packet-length = (g .born .some, g .born .short);
         carried = subst (All (Carries (s .beginning))) (sym (g .sent)) (life-carries su (s .beginning) (s .gap) ms);
         from-deposit = g .born .deposit;
-        synchronous-limit = λ z. subst (λ xs. length xs ≤ maximum su (s .beginning .from-msg3)) (sym (g .sent)) (life-limited su (s .beginning) z (ready su accepted .tries (s .beginning .from-msg3)) (s .gap) ms .all);
+        synchronous-limit = λ z. subst (λ n. length (s .sendings) ≤ n) (maximum-by (s .beginning .from-msg3)) (subst (λ xs. length xs ≤ maximum su (s .beginning .from-msg3)) (sym (g .sent)) (life-limited su (s .beginning) z (ready su accepted .tries (s .beginning .from-msg3)) (s .gap) ms .all));
         asynchronous-limit = g .room;
       }
         where

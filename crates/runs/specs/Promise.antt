@@ -1,5 +1,5 @@
 -- The promise: what holds of every past of a cell whose set-up was accepted.
-use mathlib.Core.Bool.{Bool, true, false}
+use mathlib.Core.Bool.{Bool, true, false, cond}
 use mathlib.Core.List.{List}
 use mathlib.Core.Path.{_≡_}
 use Prim.Native.Nat.{ℕ, _+_, _≤_}
@@ -8,7 +8,7 @@ use Rattle.std.specs.declared.option.Option.the-variants.{Some}
 use Rattle.std.specs.shelf.Lists.{All}
 use Rattle.terms.specs.declared.setup.Setup.{Setup}
 use Rattle.terms.specs.Sendings.{Sending}
-use Rattle.rules.specs.Process.{synchronous, maximum}
+use Rattle.rules.specs.Process.{synchronous}
 use Rattle.rules.specs.Subframe.{Beginning}
 use Rattle.runs.specs.Runs.{World, Call, Past, world-now, happened, Accepted, past-with}
 use Rattle.runs.specs.Stays.{Met, Stay, stays, surroundings, met-between, sent-below, over-below, repetitions, passing-of-run, passing-of-stays, sendings-of-stays, sendings-of-run, starts-of-run}
@@ -44,7 +44,7 @@ pub record Kept (su : Setup) (s : Stay) : Type 0 where
   -- a packet from Msg3 has the bytes of the last deposit
   pub from-deposit : s .beginning .from-msg3 ≡ true → s .deposited ≡ Some (s .beginning .packet)
   -- in a synchronous cell at most maxHARQ-Tx sendings, or maxHARQ-Msg3Tx of a packet from Msg3
-  pub synchronous-limit : synchronous (su .kind) ≡ true → length (s .sendings) ≤ maximum su (s .beginning .from-msg3)
+  pub synchronous-limit : synchronous (su .kind) ≡ true → length (s .sendings) ≤ cond (s .beginning .from-msg3) (su .«max_harq_msg3_tx») (su .«max_harq_tx»)
   -- in an asynchronous cell at most as many as its grants had repetitions
   pub asynchronous-limit : synchronous (su .kind) ≡ false → length (s .sendings) ≤ repetitions s
 
