@@ -20,6 +20,14 @@ use terms::grant::Reception;
 use terms::instruction::Instruction;
 use terms::process::Process;
 
+// How many bytes a stretch has, and the longest packet.
+pub(crate) const STRETCH: usize = 645;
+
+// The number of the Msg3 buffer's stretch, and where it begins.
+pub(crate) const MSG3: u8 = 8;
+
+const MSG3_START: usize = 5160;
+
 // The source fills `n` bytes at the front of stretch `k`, and nothing outside them, or has none.
 pub(crate) fn fill_stretch<S: Source>(memory: &mut [u8], source: &mut S, k: u8, n: u16) -> bool
     requires { ⌜ length (now memory) ≡ 5805 ⌝ ∗ ⌜ k < 9 ⌝ ∗ ⌜ n ≤ 645 ⌝ }
@@ -28,18 +36,18 @@ pub(crate) fn fill_stretch<S: Source>(memory: &mut [u8], source: &mut S, k: u8, 
     ensures memory { λ r. ⌜ now (memory .exit) ≡ with-packet (now (memory .entry)) k (offers (now (source .entry)) n) ⌝ }
     ensures source { λ r. ⌜ now (source .exit) ≡ source-after offers used (now (source .entry)) (Some n) ⌝ }
 {
-    let at = 645 * k as usize;
+    let at = STRETCH * k as usize;
     source.fill(&mut memory[at..at + n as usize])
 }
 
 // The first `n` bytes of the Msg3 buffer, and what follows them.
-fn read_msg3(memory: &[u8], n: u16) -> [u8; 645]
+fn read_msg3(memory: &[u8], n: u16) -> [u8; STRETCH]
     requires { ⌜ length (now memory) ≡ 5805 ⌝ ∗ ⌜ n ≤ 645 ⌝ }
     ensures { λ r. ⌜ take n r ≡ part (now (memory .entry)) 8 n ⌝ }
 {
     let n = n as usize;
-    let mut packet = [0u8; 645];
-    packet[0..n].copy_from_slice(&memory[5160..5160 + n]);
+    let mut packet = [0u8; STRETCH];
+    packet[0..n].copy_from_slice(&memory[MSG3_START..MSG3_START + n]);
     packet
 }
 
@@ -48,7 +56,7 @@ pub(crate) fn write_packet(memory: &mut [u8], k: u8, packet: &[u8])
     requires { ⌜ length (now memory) ≡ 5805 ⌝ ∗ ⌜ k < 9 ⌝ ∗ ⌜ length (now packet) ≤ 645 ⌝ }
     ensures { λ _. ⌜ now (memory .exit) ≡ written (now (memory .entry)) k (now (packet .entry)) ⌝ }
 {
-    let at = 645 * k as usize;
+    let at = STRETCH * k as usize;
     memory[at..at + packet.len()].copy_from_slice(packet);
 }
 
@@ -109,7 +117,7 @@ pub(crate) fn send_packet<R: Radio>(memory: &[u8], radio: &mut R, clock: u64, k:
     ensures radio { λ _. ⌜ radioed (now (radio .exit)) ≡ took (radioed (now (radio .entry))) (sending-by clock k (now (memory .entry)) p) ⌝ }
     ensures lender { λ _. ⌜ lender (now (radio .exit)) ≡ lender (now (radio .entry)) ⌝ }
 {
-    let at = 645 * k as usize;
+    let at = STRETCH * k as usize;
     let n = p.buffer.unwrap_or(0) as usize;
     let _ = radio.take(Instruction {
         subframe: clock,

@@ -3,11 +3,13 @@ ghost use mathlib.Core.Path.{_≡_};
 ghost use Rattle.rules.specs.Setup.{first-no, is-plain, set-up-questions};
 ghost use Rattle.rules.specs.Msg3.{deposit-questions, withdrawal-questions};
 ghost use Rattle.rules.specs.Questions.{answer-due, is-bundled, kind-allowed, fields-by-kind, fields-hold, grant-wants-new, questioned, asked-of-grant};
+use crate::PACKET_MEMORY;
 use crate::entity::fetch;
 use crate::entity::identify;
 use crate::entity::identify_answered;
 use crate::entity::is_new;
 use crate::entity::running;
+use crate::memory::STRETCH;
 use crate::process::is_synchronous;
 use crate::reception::enforce;
 use crate::reception::refer;
@@ -17,6 +19,9 @@ use terms::process::Feedback;
 use terms::setup::CellKind;
 use terms::setup::Setup;
 use terms::state::State;
+
+// No subframe from this one on is worked.
+const CLOCK_END: u64 = 0x1_0000_0000_0000;
 
 pub(crate) fn is_answer_due(
     setup: Setup,
@@ -135,10 +140,10 @@ pub(crate) fn ask(
 ) -> Result<(), Refusal>
     ensures { λ r. ⌜ r ≡ questioned setup (now (state .entry)) memory ready gap answer grant ⌝ }
 {
-    if memory != 5805 {
+    if memory != PACKET_MEMORY {
         return Err(Refusal::PacketMemory);
     }
-    if state.clock >= 0x1_0000_0000_0000 {
+    if state.clock >= CLOCK_END {
         return Err(Refusal::ClockEnded);
     }
     if !ready {
@@ -164,7 +169,7 @@ pub(crate) fn ask_of_setup(setup: Setup) -> Result<(), Refusal>
     if setup.interval != 0 && (setup.interval > 640 || !is_plain(setup.kind)) {
         return Err(Refusal::Interval);
     }
-    if setup.start >= 0x1_0000_0000_0000 {
+    if setup.start >= CLOCK_END {
         return Err(Refusal::Start);
     }
     Ok(())
@@ -183,10 +188,10 @@ fn is_plain(kind: CellKind) -> bool
 pub(crate) fn ask_of_deposit(memory: usize, packet: usize, msg3: Option<u16>) -> Result<(), Refusal>
     ensures { λ r. ⌜ r ≡ first-no (deposit-questions memory packet msg3) ⌝ }
 {
-    if memory != 5805 {
+    if memory != PACKET_MEMORY {
         return Err(Refusal::PacketMemory);
     }
-    if packet < 1 || packet > 645 {
+    if packet < 1 || packet > STRETCH {
         return Err(Refusal::PacketLength);
     }
     if msg3.is_some() {

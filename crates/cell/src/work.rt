@@ -43,10 +43,7 @@ pub(crate) fn take_answer(setup: Setup, state: &mut State, gap: bool, answer: Op
     ensures { λ _. ⌜ now (state .exit) ≡ heard setup (now (state .entry)) gap answer ⌝ }
 {
     if let Some(k) = identify_answered(setup.kind, state.clock) {
-        let p = hear(fetch(&state.processes, k), gap, answer);
-        if k < 8 {
-            state.processes[k as usize] = p;
-        }
+        state.processes[k as usize] = hear(fetch(&state.processes, k), gap, answer);
     }
 }
 

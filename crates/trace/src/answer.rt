@@ -8,7 +8,7 @@ ghost use Rattle.frames.specs.Lines.{lines-of};
 ghost use Rattle.trace.specs.Answers.{answers-from, answers};
 ghost use Rattle.trace.specs.Sessions.{standing-of};
 use crate::session::Session;
-use crate::session::frames_in::equip;
+use crate::session::line::equip;
 use crate::text::refusal_onto;
 use crate::text::setup_onto;
 use frames::book::book;

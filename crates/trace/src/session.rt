@@ -2,11 +2,12 @@
 use below::book::Book;
 use below::mailbox::Mailbox;
 use below::pattern::Pattern;
+use cell::PACKET_MEMORY;
 use cell::cell::Cell;
 use terms::answer::Refusal;
 use terms::answer::Reply;
 
-pub(crate) mod frames_in;
+pub(crate) mod line;
 
 // The answer to a line.
 #[derive(Clone, Copy)]
@@ -30,7 +31,7 @@ pub(crate) struct Equipped {
 pub(crate) struct Session<'a> {
     cell: Cell,
     gaps: Pattern,
-    memory: [u8; 5805],
+    memory: [u8; PACKET_MEMORY],
     radio: Mailbox,
     book: Book<'a>,
 }

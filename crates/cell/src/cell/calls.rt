@@ -17,6 +17,7 @@ use crate::cell::Cell;
 use crate::entity::decide;
 use crate::entity::fetch;
 use crate::entity::identify;
+use crate::memory::MSG3;
 use crate::memory::write_packet;
 use crate::process::IDLE;
 use crate::questions::ask;
@@ -174,7 +175,7 @@ impl Cell {
         ensures promise { λ r. ⌜ ((count : ℕ) → Keeps-promise (now (self .entry) .setup) (world (now (self .entry) .state) (now (memory .entry)) count) (deposit-call (now (packet .entry))) (world (now (self .exit) .state) (now (memory .exit)) count)) ⌝ }
     {
         ask_of_deposit(memory.len(), packet.len(), self.state.msg3)?;
-        write_packet(memory, 8, packet);
+        write_packet(memory, MSG3, packet);
         self.state.msg3 = Some(packet.len() as u16);
         Ok(())
     }

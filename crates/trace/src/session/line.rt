@@ -1,4 +1,4 @@
-// The frames of a trace, one after the other.
+// What a line of a trace does.
 ghost use mathlib.Core.Path.{_≡_};
 ghost use mathlib.Core.List.{_++_};
 ghost use lib.ListN.{replicate};
@@ -21,6 +21,7 @@ use below::mailbox::Mailbox;
 use below::mailbox::MailboxRadio;
 use below::pattern::Pattern;
 use below::pattern::plan::PatternGapPlan;
+use cell::PACKET_MEMORY;
 use cell::cell::Cell;
 use frames::frame::Frame;
 use frames::frame::SetupFrame;
@@ -61,10 +62,10 @@ pub(crate) fn equip(line: &[u8]) -> Result<Equipped, Refusal>
     }
 }
 
-fn blank_memory() -> [u8; 5805]
+fn blank_memory() -> [u8; PACKET_MEMORY]
     ensures { λ r. ⌜ r ≡ replicate 5805 0 ⌝ }
 {
-    [0; 5805]
+    [0; PACKET_MEMORY]
 }
 
 fn reply_or_refusal(result: Result<Reply, Refusal>) -> Answer

@@ -3,7 +3,7 @@ use Rattle.std.proofs.shelf.Results.{err-from-errBy}
 use Rattle.rules.specs.Setup.{set-up}
 use Rattle.below.specs.Pattern.{pattern-set-up}
 use Rattle.trace.proofs.Working.{setup-refused, setup-made, pattern-refused, both-made}
-use Rattle.trace.proofs.session.frames_in.admit.Needs as need
+use Rattle.trace.proofs.session.line.admit.Needs as need
 
 pub returns-in-Break-cell : need.returns-in-Break-cell
 returns-in-Break-cell c =
