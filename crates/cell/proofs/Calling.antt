@@ -21,11 +21,18 @@ use Rattle.ports.specs.Source.{Fits-asked}
 use Rattle.rules.specs.Reception.{grant-in-force, stored-after}
 use Rattle.rules.specs.Entity.{process-of, answering}
 use Rattle.rules.specs.Questions.{questioned}
-use Rattle.rules.specs.Subframe.{Given, Done, heard, with-configured, answer-events, after-events, turn-done, subframe-done, unless-refused}
+use Rattle.rules.specs.Subframe.{Given, Done, heard, with-configured, clock-moved, answer-events, after-events, turn-done, subframe-done, unless-refused}
 use Rattle.rules.specs.Invariant.{Sound, Sized-grant, Named-below}
-use Rattle.rules.proofs.Keeping.{admitted, sound-heard, sound-stored, sized-in-force, named-in-force, process-bound}
+use Rattle.rules.specs.Setup.{set-up-questions, set-up-holds}
+use Rattle.runs.specs.Runs.{Accepted}
+use Rattle.rules.proofs.Keeping.{yes-accepts, admitted, sound-heard, sound-stored, sound-moved, sized-in-force, named-in-force, process-bound}
 use Rattle.cell.specs.Calls.{After, after-done, after-result, after-subframe}
 use Rattle.cell.specs.declared.cell.Cell.{Cell}
+
+-- the set-up of a cell was accepted
+pub accepted-cell : (c : Cell) → Accepted (c .setup)
+unfolding set-up-holds
+accepted-cell c = yes-accepts (set-up-questions (c .setup)) (c .accepted)
 
 -- what a cell keeps
 pub sound-cell : (c : Cell) → Sound (c .setup) (c .state)
@@ -73,6 +80,13 @@ module _ (su : Setup) (st : State) (m : List ℕ) (gap : Bool) (a : Option Feedb
       pub bound : k < 8
       pub clock : s1 .clock < 2 ^ 48
       pub room : ready ≡ true
+
+    -- a subframe with no process
+    pub sound-idle : Sound su st → Sound su (clock-moved (with-configured s1 c))
+    sound-idle h =
+        let S : State → Type 0 = λ x. Sound su x in
+        let y = admitted su st (length m) ready gap a g yes in
+        sound-moved su (with-configured s1 c) (subst S (ap (with-configured s1) (sym ec)) (sound-stored su s1 (st .clock) g (subst S (sym es) (sound-heard su st gap a h)) (y .fields)))
 
     pub prepared : (k : ℕ) → Some k ≡ o → Sound su st → Prepared k
     prepared k ek h =

@@ -28,18 +28,14 @@ use Rattle.rules.specs.Setup.{first-no}
 use Rattle.rules.specs.Msg3.{Left, with-msg3, left-unless-refused, deposit-questions, deposit-done, deposit, withdrawal-questions, withdrawal-done, withdrawal}
 use Rattle.runs.specs.Runs.{World, Call, deposit-call, withdrawal-call, fitting, Step, subframe-step, msg3-step, step-of, step, Past, world-now, Accepted, past-with}
 use Rattle.runs.specs.Promise.{Promise, Keeps-promise}
-use Rattle.runs.proofs.Runs.{world-with}
-use Rattle.runs.proofs.Main.{promise}
+use Rattle.runs.proofs.Main.{call-keeps}
 use Rattle.runs.proofs.Offers.{Fits, with-offers, subframe-fitting}
 use Rattle.cell.specs.Calls.{After, after-result, after-subframe, Filed, after-left, after-deposit, after-withdrawal}
 use Rattle.cell.specs.Promises.{world, subframe-over, latest-sent, latest-after}
 
 -- a call that leaves what a step of the run leaves keeps the promise
-pub keeps : (su : Setup) (w w′ : World) (c : Call) → step su w c .world ≡ w′ → Keeps-promise su w c w′
-keeps su w w′ c e p es accepted ew = (
-  world-with p c ∙ ap (λ s. step s (world-now p) c .world) es ∙ ap (λ x. step su x c .world) ew ∙ e,
-  promise (past-with p c) (subst Accepted (sym es) accepted),
-)
+pub keeps : (su : Setup) (w w′ : World) (c : Call) → Accepted su → step su w c .world ≡ w′ → Keeps-promise su w c w′
+keeps su w w′ c accepted e p same leads = let k = call-keeps su w c accepted p same leads in (k .0 ∙ e, k .1)
 
 fits-of : (n : ℕ) (o : Option (List ℕ)) → Fits-size n o → (b : List ℕ) → o ≡ Some b → Fits n b
 fits-of n None h b e = absurd (let z : _≡_ {A = ℕ} 0 1 = cc in omega arith)
@@ -76,7 +72,7 @@ done-latest : (r : Radioed) (su : Setup) (st : State) (m : List ℕ) (gap : Bool
 done-latest r su st m gap offers g o j t a = turn-latest r su st m gap offers g o ∙ answered-latest j t a gap (turn-done su st m gap offers g o .events) (r .latest)
 
 -- the subframe call
-module _ {S : Type 0} (offers : S → ℕ → Option (List ℕ)) (used : S → ℕ → S) (su : Setup) (st : State) (m : List ℕ) (r : Radioed) (s : S) (gaps : ℕ → Bool) (a : Option Feedback) (g : Option Grant) where
+module _ {S : Type 0} (offers : S → ℕ → Option (List ℕ)) (used : S → ℕ → S) (su : Setup) (st : State) (m : List ℕ) (r : Radioed) (s : S) (gaps : ℕ → Bool) (a : Option Feedback) (g : Option Grant) (accepted : Accepted su) where
   abbrev call : Call
   call = subframe-over a g gaps (offers s) r
 
@@ -104,7 +100,7 @@ module _ {S : Type 0} (offers : S → ℕ → Option (List ℕ)) (used : S → �
 
     pub subframe-keeps : (x : After S (Result Reply Refusal)) → x ≡ after-subframe offers used su st m r s (gaps (st .clock)) a g → Keeps-promise su here call (world (x .state) (x .memory) (x .radio .count))
     subframe-keeps x e =
-        keeps su here (world (x .state) (x .memory) (x .radio .count)) call
+        keeps su here (world (x .state) (x .memory) (x .radio .count)) call accepted
         (ap (λ z. z .world) same-step ∙ world-of (subframe su st m asked-for) ∙ ap (λ z. world (z .state) (z .memory) (z .radio .count)) (sym e))
 
     -- the latest instruction
@@ -133,7 +129,7 @@ module _ {S : Type 0} (offers : S → ℕ → Option (List ℕ)) (used : S → �
     refused-step = ap (λ q. step-of here (subframe-step here (unless-refused q (subframe-done su st m (with-offers asked-for (fitting (offers s))))))) (sym no)
 
     pub refused-keeps : Keeps-promise su here call here
-    refused-keeps = keeps su here here call (ap (λ z. z .world) refused-step)
+    refused-keeps = keeps su here here call accepted (ap (λ z. z .world) refused-step)
 
     pub refused-latest : r .latest ≡ latest-after su here call (r .latest)
     refused-latest = ap (λ z. latest-sent (z .events) (r .latest)) (sym refused-step)
@@ -142,16 +138,16 @@ module _ {S : Type 0} (offers : S → ℕ → Option (List ℕ)) (used : S → �
     refused-whole = ap (λ q. after-result offers used st m r s (unless-refused q (subframe-done su st m asked-for))) no
 
 -- the Msg3 calls
-module _ (su : Setup) (st : State) (m : List ℕ) (n : ℕ) where
+module _ (su : Setup) (st : State) (m : List ℕ) (n : ℕ) (accepted : Accepted su) where
   filed-world : (es : List Event) (l : Result Left Refusal) → let x = after-left st m l in step-of (world st m n) (msg3-step (world st m n) es l) .world ≡ world (x .state) (x .memory) n
   filed-world es (Ok l) = refl
   filed-world es (Err e) = refl
 
   pub deposit-keeps : (b : List ℕ) (x : Filed) → x ≡ after-deposit st m b → Keeps-promise su (world st m n) (deposit-call b) (world (x .state) (x .memory) n)
-  deposit-keeps b x e = keeps su (world st m n) (world (x .state) (x .memory) n) (deposit-call b) (filed-world (deposits b ∷ []) (deposit st m b) ∙ ap (λ z. world (z .state) (z .memory) n) (sym e))
+  deposit-keeps b x e = keeps su (world st m n) (world (x .state) (x .memory) n) (deposit-call b) accepted (filed-world (deposits b ∷ []) (deposit st m b) ∙ ap (λ z. world (z .state) (z .memory) n) (sym e))
 
   pub withdrawal-keeps : (x : Filed) → x ≡ after-withdrawal st m → Keeps-promise su (world st m n) withdrawal-call (world (x .state) (x .memory) n)
-  withdrawal-keeps x e = keeps su (world st m n) (world (x .state) (x .memory) n) withdrawal-call (filed-world [] (withdrawal st m) ∙ ap (λ z. world (z .state) (z .memory) n) (sym e))
+  withdrawal-keeps x e = keeps su (world st m n) (world (x .state) (x .memory) n) withdrawal-call accepted (filed-world [] (withdrawal st m) ∙ ap (λ z. world (z .state) (z .memory) n) (sym e))
 
 -- what the questions of the Msg3 calls make of them
 pub deposit-refused : (st : State) (m b : List ℕ) (e : Refusal) → Err e ≡ first-no (deposit-questions (length m) (length b) (st .msg3)) → _≡_ {A = Filed} (record { answer = Err e; state = st; memory = m }) (after-deposit st m b)

@@ -1,5 +1,8 @@
 ghost use Prim.Native.Nat.{_<_, _≤_};
 ghost use Rattle.std.specs.Options.{valueOr};
+ghost use mathlib.Core.Path.{_≡_};
+ghost use mathlib.Core.Bool.{true};
+ghost use Rattle.rules.specs.Setup.{set-up-holds};
 ghost use Rattle.rules.specs.Invariant.{Indices, Counts, Not-empty, Not-long, Limits, stored-size, repeated-process};
 
 mod calls;
@@ -13,6 +16,7 @@ use terms::state::State;
 pub struct Cell {
     setup: Setup,
     state: State,
+    ghost accepted: { set-up-holds setup ≡ true },
     ghost least: { 1 ≤ setup .«max_harq_tx» },
     ghost most: { setup .«max_harq_tx» ≤ 28 },
     ghost least_msg3: { 1 ≤ setup .«max_harq_msg3_tx» },

@@ -38,7 +38,7 @@ use Rattle.terms.specs.Versions.{index-of}
 use Rattle.rules.specs.Process.{idle, synchronous, holds-packet, hears, granted-version, first-index, counted, renewed, adapted, repeated, on-air, advanced, maximum, gives-up, flushed, transmitted}
 use Rattle.rules.specs.Reception.{in-force-by, over-the-air, reception-of, recurs, recurring, stored-in-force, grant-in-force, activates, stored-after, referred}
 use Rattle.rules.specs.Entity.{process-at, repeating, process-of, answering, wants-new, spares, decided-by, decided, Fresh, Course, rests, begins, again, begun, obtained, course, work-of}
-use Rattle.rules.specs.Setup.{first-no, within, set-up-questions, fresh-state}
+use Rattle.rules.specs.Setup.{first-no, all-yes, within, set-up-questions, fresh-state}
 use Rattle.rules.specs.Questions.{answer-due, kind-allowed, fields-by-kind, fields-hold, grant-questions, asked-of-grant, questioned}
 use Rattle.rules.specs.Subframe.{heard-at, heard, with-configured, clock-moved, concluded, repetition-by, repetition-after, finished}
 use Rattle.rules.specs.Invariant.{stored-size, repeated-process, Good, Loaded, Bounds, Sound, Loaded-work, Sized-grant, Sane, Fresh-sized, Obtains, Named-below}
@@ -415,3 +415,20 @@ bounds-asked su e =
     let tx = and-left (within 1 28 (su .«max_harq_tx»)) (within 1 8 (su .«max_harq_msg3_tx»)) m in
     let tx3 = and-right (within 1 28 (su .«max_harq_tx»)) (within 1 8 (su .«max_harq_msg3_tx»)) m in
     record { least = le-of (and-left (leb 1 (su .«max_harq_tx»)) _ tx); most = le-of (and-right (leb 1 (su .«max_harq_tx»)) _ tx); least3 = le-of (and-left (leb 1 (su .«max_harq_msg3_tx»)) _ tx3); most3 = le-of (and-right (leb 1 (su .«max_harq_msg3_tx»)) _ tx3) }
+
+-- a call is accepted where every question is answered yes, and only there
+pub yes-accepts : (qs : List (Bool × Refusal)) → all-yes qs ≡ true → first-no qs ≡ Ok tt
+yes-accepts [] h = refl
+yes-accepts (q ∷ qs) h = go (q .0) h (yes-accepts qs)
+  where
+    go : (b : Bool) → (b && all-yes qs) ≡ true → (all-yes qs ≡ true → first-no qs ≡ Ok tt) → cond b (first-no qs) (Err (q .1)) ≡ Ok tt
+    go true h k = k h
+    go false h k = absurd (let z : _≡_ {A = ℕ} 0 1 = cc in omega arith)
+
+pub accepts-yes : (qs : List (Bool × Refusal)) → Ok tt ≡ first-no qs → all-yes qs ≡ true
+accepts-yes [] h = refl
+accepts-yes (q ∷ qs) h = go (q .0) h (accepts-yes qs)
+  where
+    go : (b : Bool) → Ok tt ≡ cond b (first-no qs) (Err (q .1)) → (Ok tt ≡ first-no qs → all-yes qs ≡ true) → (b && all-yes qs) ≡ true
+    go true h k = k h
+    go false h k = absurd (let z : _≡_ {A = ℕ} 0 1 = cc in omega arith)

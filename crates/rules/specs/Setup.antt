@@ -22,6 +22,11 @@ abbrev pub first-no : List (Bool × Refusal) → Result (Unit {0}) Refusal
 first-no [] = Ok tt
 first-no (q ∷ qs) = cond (q .0) (first-no qs) (Err (q .1))
 
+-- every question is answered yes
+abbrev pub all-yes : List (Bool × Refusal) → Bool
+all-yes [] = true
+all-yes (q ∷ qs) = q .0 && all-yes qs
+
 abbrev pub within : ℕ → ℕ → ℕ → Bool
 within least most n = leb least n && leb n most
 
@@ -37,6 +42,10 @@ set-up-questions su =
     ∷ (eqb (su .interval) 0 || (within 1 640 (su .interval) && is-plain (su .kind)), refusal.Interval)
     ∷ (ltb (su .start) (2 ^ 48), refusal.Start)
     ∷ []
+
+-- every question of set-up after its first is answered yes
+unfoldable pub set-up-holds : Setup → Bool
+set-up-holds su = all-yes (set-up-questions su)
 
 -- the state at set-up
 abbrev pub fresh-state : ℕ → State

@@ -137,5 +137,5 @@ promise p a = record {
 }
 
 -- every call keeps it
-pub call-keeps : (su : Setup) (w : World) (c : Call) → Keeps-promise su w c (step su w c .world)
-call-keeps su w c p same a leads = (world-with p c ∙ ap₂ (λ z v. step z v c .world) same leads, promise (past-with p c) (subst Accepted (sym same) a))
+pub call-keeps : (su : Setup) (w : World) (c : Call) → Accepted su → Keeps-promise su w c (step su w c .world)
+call-keeps su w c a p same leads = (world-with p c ∙ ap₂ (λ z v. step z v c .world) same leads, promise (past-with p c) (subst Accepted (sym same) a))

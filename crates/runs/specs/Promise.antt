@@ -104,4 +104,4 @@ Promise-holds = (p : Past) → Accepted (p .setup) → Promise p
 -- A call that finds one world and leaves another keeps the promise: each past that leads to the world found leads, with the call added, to the world left,
 -- and the promise holds of it.
 abbrev pub Keeps-promise : Setup → World → Call → World → Type 0
-Keeps-promise su w c w′ = (p : Past) → p .setup ≡ su → Accepted su → world-now p ≡ w → (world-now (past-with p c) ≡ w′) × Promise (past-with p c)
+Keeps-promise su w c w′ = (p : Past) → p .setup ≡ su → world-now p ≡ w → (world-now (past-with p c) ≡ w′) × Promise (past-with p c)

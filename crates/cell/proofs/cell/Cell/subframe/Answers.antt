@@ -6,7 +6,7 @@ use lib.ListN.{length}
 use Rattle.std.specs.declared.option.Option.the-variants.{Some, None}
 use Rattle.std.specs.declared.result.Result.the-variants.{Err}
 use Rattle.rules.specs.Entity.{process-of}
-use Rattle.cell.proofs.Calling.{sound-cell, prepared, fits-done, done-whole, asked-of}
+use Rattle.cell.proofs.Calling.{sound-cell, accepted-cell, sound-idle, prepared, fits-done, done-whole, asked-of}
 use Rattle.cell.proofs.Promising.{subframe-keeps, subframe-latest, refused-whole, refused-keeps, refused-latest}
 use Rattle.cell.proofs.cell.Cell.subframe.Needs as need
 
@@ -16,6 +16,48 @@ turn-requires g c κs =
     (c .take-answer .ensures) (c .force-g .ensures) (c .store-self .ensures) (c .in-Some .ensures tt) (c .ready .result) (c .in-Continue-ask .ensures tt) (c .in-Some .k) refl
     (sound-cell (c .args .self .now)) in
     record { sound = z .sound; sized = z .sized; named = z .named; within = (z .whole, (z .bound, z .clock)); room = sym (c .ready .ensures) ∙ z .room }
+
+pub ghost-self : need.ghost-self
+ghost-self g c =
+    let eo : None ≡ process-of (c .args .self .now .setup .kind) (c .args .self .now .state .clock) (c .force-g .result) (c .take-answer .last .state .repetition) = search needs in
+    let z = sound-idle (c .args .self .now .setup) (c .args .self .now .state) (c .args .memory .now) (c .covers-gap .result) (c .args .answer) (c .args .grant) (c .take-answer .last .state) (c .force-g .result) (c .store-self .result) None
+    (c .take-answer .ensures) (c .force-g .ensures) (c .store-self .ensures) eo (c .ready .result) (c .in-Continue-ask .ensures tt) (sound-cell (c .args .self .now)) in (
+      c .args .self .now .accepted,
+      (
+        z .bounds .least,
+        (
+          z .bounds .most,
+          (
+            z .bounds .least3,
+            (
+              z .bounds .most3,
+              (
+                z .packets,
+                (
+                  z .sendings,
+                  (
+                    z .smallest,
+                    (
+                      z .largest,
+                      (
+                        z .shortest,
+                        (
+                          z .longest,
+                          (
+                            z .repeats,
+                            ((λ k l. z .good k l .index), ((λ k l. z .good k l .count), ((λ k l. z .good k l .not-empty), ((λ k l. z .good k l .not-long), ((λ k l. z .good k l .limit), tt))))),
+                          ),
+                        ),
+                      ),
+                    ),
+                  ),
+                ),
+              ),
+            ),
+          ),
+        ),
+      ),
+    )
 
 pub returns-in-Break-ask : need.returns-in-Break-ask
 returns-in-Break-ask g c =
@@ -30,10 +72,10 @@ returns-in-Break-ask g c =
     let e = c .in-Break-ask .field-0 .0 in
     let no = asked-of su st (length m) (c .ready .result) (has-room r) (c .covers-gap .result) (plan (st .clock)) (c .args .answer) (c .args .grant) (Err e) (c .ready .ensures) (c .covers-gap .ensures) (c .in-Break-ask .ensures tt) in
     rw (p .1, p .2) (record {
-      whole = refused-whole o u su st m r (c .args .source .now) plan (c .args .answer) (c .args .grant) e no;
+      whole = refused-whole o u su st m r (c .args .source .now) plan (c .args .answer) (c .args .grant) (accepted-cell (c .args .self .now)) e no;
       setup = refl;
-      promise = refused-keeps o u su st m r (c .args .source .now) plan (c .args .answer) (c .args .grant) e no;
-      latest = refused-latest o u su st m r (c .args .source .now) plan (c .args .answer) (c .args .grant) e no;
+      promise = refused-keeps o u su st m r (c .args .source .now) plan (c .args .answer) (c .args .grant) (accepted-cell (c .args .self .now)) e no;
+      latest = refused-latest o u su st m r (c .args .source .now) plan (c .args .answer) (c .args .grant) (accepted-cell (c .args .self .now)) e no;
       lender = refl;
     })
 
@@ -55,8 +97,8 @@ returns-in-rest g c =
     record {
       whole = e;
       setup = refl;
-      promise = subframe-keeps o u su st m r (c .args .source .now) plan (c .args .answer) (c .args .grant) fits _ e;
-      latest = subframe-latest o u su st m r (c .args .source .now) plan (c .args .answer) (c .args .grant) fits _ e;
+      promise = subframe-keeps o u su st m r (c .args .source .now) plan (c .args .answer) (c .args .grant) (accepted-cell (c .args .self .now)) fits _ e;
+      latest = subframe-latest o u su st m r (c .args .source .now) plan (c .args .answer) (c .args .grant) (accepted-cell (c .args .self .now)) fits _ e;
       lender = refl;
     }
 
@@ -78,7 +120,7 @@ returns g c =
     record {
       whole = e;
       setup = refl;
-      promise = subframe-keeps o u su st m r (c .args .source .now) plan (c .args .answer) (c .args .grant) fits _ e;
-      latest = subframe-latest o u su st m r (c .args .source .now) plan (c .args .answer) (c .args .grant) fits _ e;
+      promise = subframe-keeps o u su st m r (c .args .source .now) plan (c .args .answer) (c .args .grant) (accepted-cell (c .args .self .now)) fits _ e;
+      latest = subframe-latest o u su st m r (c .args .source .now) plan (c .args .answer) (c .args .grant) (accepted-cell (c .args .self .now)) fits _ e;
       lender = c .turn .ensures .lender;
     }
