@@ -14,9 +14,8 @@ import subprocess
 import sys
 
 CRATES = {"hex": "hexadecimal"}
-KIND = re.compile(r"^(?:(?:abbrev|pub|unfoldable)\s+)*(record|data)\s+(\S+)")
-NAME = re.compile(r"^(?:(?:abbrev|pub|unfoldable)\s+)*([^\s(){}]+)\s*:(?:\s|$)")
-MEMBER = re.compile(r"^  (?:pub )?([^\s(){}]+)\s*:(?:\s|$)")
+KIND = re.compile(r"^\s*(?:(?:abbrev|pub|unfoldable)\s+)*(?:record|data)\s+(\S+)")
+NAME = re.compile(r"^\s*(?:(?:abbrev|pub|unfoldable)\s+)*([^\s(){}]+)\s*:(?:\s+(\S+)|$)")
 TOKEN = re.compile(r"[^\s(){}\[\].,;«»\"`:]+")
 
 
@@ -29,27 +28,16 @@ def files(endings):
 
 
 def defined():
-    """The names that the files of definitions and lemmas declare."""
+    """The names that the files of definitions and lemmas declare, at the top, in a record or within a module; and the lemmas beside a function's answers."""
     found = set()
     for path in files(".antt"):
-        parts = path.split(os.sep)
-        if parts[2] == "proofs" and len(parts) > 4:
-            continue
-        inside = False
         for line in open(path, encoding="utf-8"):
-            kind = KIND.match(line)
-            name = NAME.match(line)
+            kind, name = KIND.match(line), NAME.match(line)
             if kind:
-                found.add(kind.group(2))
-                inside = True
-            elif name and not line.startswith(("use", "--")):
+                found.add(kind.group(1))
+            elif name and not (name.group(2) or "").startswith("goal."):
                 found.add(name.group(1))
-                inside = False
-            elif line.strip() and not line.startswith((" ", "--")):
-                inside = False
-            elif inside and MEMBER.match(line):
-                found.add(MEMBER.match(line).group(1))
-    return {n for n in found if "-" in n}
+    return {n for n in found if "-" in n and not n.startswith("-")}
 
 
 def camel(name):

@@ -1,4 +1,5 @@
 // Kinds of what stands below a cell: radios, sources and gap plans.
+#![tactic(auto)]
 pub mod book;
 pub mod heartbeat;
 pub mod mailbox;

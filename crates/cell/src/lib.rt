@@ -1,4 +1,5 @@
 // The cell: its set-up and its calls.
+#![tactic(auto)]
 pub mod cell;
 mod entity;
 mod memory;

@@ -1,4 +1,6 @@
 // Lower-case hexadecimal text and the bytes that it stands for.
+#![tactic(auto)]
+
 ghost use Rattle.std.specs.Prelude.{◌≡◌, ◌+◌, ◌*◌, ◌/◌, ◌<◌, ◌++◌, length, OnOk, nat_le, slice_index};
 ghost use Rattle.hexadecimal.specs.Hex.{is_digit, digit_of, letter_of, digits_of, all_digits, whole, decoded, encoded, Partly, digits_put, laid_length, laid, EncodedDecodes, DecodedEncodes, EncodedWhole, DecodedBytes};
 

@@ -1,4 +1,6 @@
 // The slot format: an instruction in 661 bytes.
+#![tactic(auto)]
+
 ghost use Rattle.std.specs.Prelude.{◌≡◌, ◌+◌, ◌<◌, ◌≤◌, true, length, Some};
 ghost use Rattle.terms.specs.Sendings.{sending_of, told_of, is_packet};
 ghost use Rattle.slot.specs.Slots.{heading, slot_of, two_at, first_eight, is_slot, said_by, decoded, takes_slot, after_encoding, SlotsGiveBack, WorkedSlot};

@@ -5,14 +5,14 @@ use Rattle.std.proofs.lemmas.Bool.{leb-true}
 use Rattle.hexadecimal.proofs.Coding.{length_encoded, lay_digits}
 use Rattle.hexadecimal.proofs.encode_into.Goals as goal
 
-pub returns-then-not-has-room : goal.returns-then-not-has-room
-returns-then-not-has-room c = let n = length_encoded c.args.bytes.now in search rules
+pub returns-then-not-has_room : goal.returns-then-not-has_room
+returns-then-not-has_room c = let n = length_encoded c.args.bytes.now in search rules
 
 pub loop-k-preserved : goal.loop-k-preserved
 loop-k-preserved c =
     let r : leb (2 * length c.args.bytes.now) (length c.args.stretch.now) ≡ true = search rules in
     let l = leb-true (2 * length c.args.bytes.now) (length c.args.stretch.now) r in
-    c.put-digits.ensures ∙ lay_digits c.args.bytes.now c.args.stretch.now c.loop-k.stretch c.loop-k.k (omega arith) (omega arith) c.loop-k.invariant
+    c.put_digits.ensures ∙ lay_digits c.args.bytes.now c.args.stretch.now c.loop-k.stretch c.loop-k.k (omega arith) (omega arith) c.loop-k.invariant
 
 pub returns : goal.returns
 returns c =

@@ -6,8 +6,8 @@ use Rattle.hexadecimal.proofs.encode_onto.Goals as goal
 
 pub loop-byte-preserved : goal.loop-byte-preserved
 loop-byte-preserved c =
-    digits_pushed (vec_items c.args.v.now) (vec_items c.extend-from-slice.new.self) c.args.bytes.now c.digits-of.result c.loop-byte.byte-index (omega arith) c.digits-of.ensures
-    (pushed c.digits-of.result c.loop-byte.invariant c.in-ok-extend-from-slice.was c.extend-from-slice.ensures.items)
+    digits_pushed (vec_items c.args.v.now) (vec_items c.extend_from_slice.new.self) c.args.bytes.now c.digits_of.result c.loop-byte.byte-index (omega arith) c.digits_of.ensures
+    (pushed c.digits_of.result c.loop-byte.invariant c.in_ok-extend_from_slice.was c.extend_from_slice.ensures.items)
 
 pub returns : goal.returns
 returns c = record { all = push_all (vec_items c.args.v.now) (vec_items c.loop-byte.v) (encoded c.args.bytes.now) (2 * c.loop-byte.byte-index) (omega (arith, length_encoded c.args.bytes.now)) c.loop-byte.invariant; part = (2 * c.loop-byte.byte-index, c.loop-byte.invariant) }

@@ -5,7 +5,7 @@ use Rattle.cabins.proofs.Walking.{joined_step, joined_end}
 use Rattle.cabins.proofs.list.read_tallies.Goals as goal
 
 pub loop-line-preserved : goal.loop-line-preserved
-loop-line-preserved c = joined_step tallies_in (vec_items c.loop-line.tallies) (vec_items c.tally-onto.new.tallies) (lines_of c.loop-line.lines.rest.now) (lines_of c.next.new.self.rest.now) c.in-Some.line.now _ c.in-Some.ensures.line c.in-ok-tally-onto.ensures c.loop-line.invariant
+loop-line-preserved c = joined_step tallies_in (vec_items c.loop-line.tallies) (vec_items c.tally_onto.new.tallies) (lines_of c.loop-line.lines.rest.now) (lines_of c.next.new.self.rest.now) c.in-Some.line.now _ c.in-Some.ensures.line c.in_ok-tally_onto.ensures c.loop-line.invariant
 
 pub returns : goal.returns
 unfolding tallies_of

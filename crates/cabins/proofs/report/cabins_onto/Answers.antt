@@ -10,8 +10,8 @@ returns-in-default c = cabins_no_line (vec_items c.loop-tally.out) (lines_of c.l
 
 pub loop-tally-preserved : goal.loop-tally-preserved
 loop-tally-preserved c =
-    cabins_step (vec_items c.loop-tally.out) (vec_items c.cabin-onto.new.out) (lines_of c.loop-tally.lines.rest.now) (lines_of c.next.new.self.rest.now) c.in-Some.line.now c.args.tallies.now c.loop-tally.tally-index no_tally _
-    c.in-Some.ensures.line (omega arith) (c.in-ok-cabin-onto.ensures ∙ ap (λ n. vec_items c.loop-tally.out ++ cabin_line n (get_or c.args.tallies.now c.loop-tally.tally-index no_tally)) c.name-of.ensures) c.loop-tally.invariant
+    cabins_step (vec_items c.loop-tally.out) (vec_items c.cabin_onto.new.out) (lines_of c.loop-tally.lines.rest.now) (lines_of c.next.new.self.rest.now) c.in-Some.line.now c.args.tallies.now c.loop-tally.tally-index no_tally _
+    c.in-Some.ensures.line (omega arith) (c.in_ok-cabin_onto.ensures ∙ ap (λ n. vec_items c.loop-tally.out ++ cabin_line n (get_or c.args.tallies.now c.loop-tally.tally-index no_tally)) c.name_of.ensures) c.loop-tally.invariant
 
 pub returns : goal.returns
 returns c = cabins_end (vec_items c.loop-tally.out) (lines_of c.loop-tally.lines.rest.now) c.args.tallies.now c.loop-tally.tally-index _ (omega arith) c.loop-tally.invariant

@@ -6,5 +6,5 @@ use Rattle.cabins.proofs.text.cabin_onto.Goals as goal
 
 pub returns : goal.returns
 returns c =
-    then_said c.append.result (vec_items c.args.out.now) (vec_items c.extend-from-slice.new.self) (vec_items c.append.new.out) c.args.name.now c.as-str.result.now (cabin_text c.args.tally.now)
-    (pushed c.args.name.now refl c.in-ok-extend-from-slice.was c.extend-from-slice.ensures.items) (c.as-str.ensures.value ∙ c.in-ok-text.ensures) c.append.ensures
+    then_said c.append.result (vec_items c.args.out.now) (vec_items c.extend_from_slice.new.self) (vec_items c.append.new.out) c.args.name.now c.as_str.result.now (cabin_text c.args.tally.now)
+    (pushed c.args.name.now refl c.in_ok-extend_from_slice.was c.extend_from_slice.ensures.items) (c.as_str.ensures.value ∙ c.in_ok-text.ensures) c.append.ensures

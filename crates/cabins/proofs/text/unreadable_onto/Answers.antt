@@ -3,4 +3,4 @@ use Rattle.cabins.proofs.Telling.{said}
 use Rattle.cabins.proofs.text.unreadable_onto.Goals as goal
 
 pub returns : goal.returns
-returns c = said c.append.result (vec_items c.args.out.now) (vec_items c.append.new.out) c.as-str.result.now _ (c.as-str.ensures.value ∙ c.in-ok-text.ensures) c.append.ensures
+returns c = said c.append.result (vec_items c.args.out.now) (vec_items c.append.new.out) c.as_str.result.now _ (c.as_str.ensures.value ∙ c.in_ok-text.ensures) c.append.ensures

@@ -11,6 +11,6 @@ returns-in-Some g c =
       sized = msg3-sized c.args.g c.args.msg3 c.args.memory.now (g.S.Source.offers c.args.source.now) c.args.k c.in-Some.length c.in-Some.ensures (part_length c.args.memory.now 8 c.in-Some.length (omega arith)) l b;
       fits = msg3_fits (g.S.Source.offers c.args.source.now) (msg3_taken c.args.g.reception c.args.msg3) c.in-Some.length c.args.g.size c.in-Some.ensures;
       packet = msg3_packet c.args.g c.args.msg3 c.args.memory.now (g.S.Source.offers c.args.source.now) c.args.k c.in-Some.length c.in-Some.ensures (part_length c.args.memory.now 8 c.in-Some.length (omega arith));
-      memory = c.copy-msg3.ensures ∙ msg3_memory c.args.g c.args.msg3 c.args.memory.now (g.S.Source.offers c.args.source.now) c.args.k c.in-Some.length c.in-Some.ensures;
+      memory = c.copy_msg3.ensures ∙ msg3_memory c.args.g c.args.msg3 c.args.memory.now (g.S.Source.offers c.args.source.now) c.args.k c.in-Some.length c.in-Some.ensures;
       source = msg3_source g.S.Source.offers g.S.Source.used c.args.source.now (msg3_taken c.args.g.reception c.args.msg3) c.in-Some.length c.args.g.size c.in-Some.ensures;
     }

@@ -5,7 +5,7 @@ use Rattle.frames.proofs.Walking.{joined_step, joined_end}
 use Rattle.frames.proofs.book.book.Goals as goal
 
 pub loop-line-preserved : goal.loop-line-preserved
-loop-line-preserved c = joined_step record_of (vec_items c.loop-line.records) (vec_items c.line-onto.new.book) (lines_of c.loop-line.lines.rest.now) (lines_of c.next.new.self.rest.now) c.in-Some.line.now _ c.in-Some.ensures.line c.in-ok-line-onto.ensures c.loop-line.invariant
+loop-line-preserved c = joined_step record_of (vec_items c.loop-line.records) (vec_items c.line_onto.new.book) (lines_of c.loop-line.lines.rest.now) (lines_of c.next.new.self.rest.now) c.in-Some.line.now _ c.in-Some.ensures.line c.in_ok-line_onto.ensures c.loop-line.invariant
 
 pub returns : goal.returns
 unfolding book_of

@@ -9,5 +9,5 @@ pub returns : goal.returns
 returns c =
     let v = vec_items c.args.book.now in
     let d = decoded c.args.digits.now in
-    let h : vec_items c.extend-from-slice.new.self ≡ v ++ two_bytes (length d) = search rules in
-    IfOk-weaker c.decode-onto.result _ _ (λ _ e. e ∙ ap (λ x. x ++ d) h ∙ append_assoc v (two_bytes (length d)) d) c.decode-onto.ensures.all
+    let h : vec_items c.extend_from_slice.new.self ≡ v ++ two_bytes (length d) = search rules in
+    IfOk-weaker c.decode_onto.result _ _ (λ _ e. e ∙ ap (λ x. x ++ d) h ∙ append_assoc v (two_bytes (length d)) d) c.decode_onto.ensures.all

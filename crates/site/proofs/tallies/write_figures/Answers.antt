@@ -14,8 +14,8 @@ add-requires c =
     let w = come_to ts c.loop-tally.tallies i c.requires c.loop-tally.invariant.4 h in
     (omega arith, (omega arith, (w.1, w.2)))
 
-pub write-figure-requires : goal.write-figure-requires
-write-figure-requires c = (come_to c.args.tallies.now c.loop-tally.tallies c.loop-tally.tally-index c.requires c.loop-tally.invariant.4 c.loop-tally-test.true).2
+pub write_figure-requires : goal.write_figure-requires
+write_figure-requires c = (come_to c.args.tallies.now c.loop-tally.tallies c.loop-tally.tally-index c.requires c.loop-tally.invariant.4 c.loop-tally-test.true).2
 
 pub loop-tally-preserved : goal.loop-tally-preserved
 loop-tally-preserved c =
@@ -30,7 +30,7 @@ loop-tally-preserved c =
     let s = sendings_more ts i no_tally h in
     let a = c.add.ensures.packets in
     let b = c.add.ensures.sendings in
-    (omega arith, omega arith, omega arith, omega arith, figured_more ts us i c.write-figure.new.tally h c.loop-tally.invariant.4 c.write-figure.ensures)
+    (omega arith, omega arith, omega arith, omega arith, figured_more ts us i c.write_figure.new.tally h c.loop-tally.invariant.4 c.write_figure.ensures)
 
 pub returns : goal.returns
 returns c =

@@ -7,13 +7,13 @@ use Rattle.trace.proofs.answer.answer_all.Goals as goal
 
 pub returns-in-Ok : goal.returns-in-Ok
 returns-in-Ok c =
-    before_set_up c.in-Ok.equipped (standing_of c.new.result) (book_of c.args.input.now) (vec_items c.loop-line.out) (vec_items c.setup-onto.new.out) (vec_items c.run.new.out) c.in-Some.line.now _ (lines_of c.loop-line.lines.rest.now) (lines_of c.next.new.self.rest.now)
-    c.in-Some.ensures.line c.in-Ok.ensures.equipment c.in-Ok.ensures.fresh (c.new.ensures ∙ ap (opened c.in-Ok.equipped) (c.as-slice.ensures.value ∙ c.in-ok-records.ensures)) c.in-ok-setup-onto.ensures c.in-ok-run.ensures c.loop-line.invariant
+    before_set_up c.in-Ok.equipped (standing_of c.new.result) (book_of c.args.input.now) (vec_items c.loop-line.out) (vec_items c.setup_onto.new.out) (vec_items c.run.new.out) c.in-Some.line.now _ (lines_of c.loop-line.lines.rest.now) (lines_of c.next.new.self.rest.now)
+    c.in-Some.ensures.line c.in-Ok.ensures.equipment c.in-Ok.ensures.fresh (c.new.ensures ∙ ap (opened c.in-Ok.equipped) (c.as_slice.ensures.value ∙ c.in_ok-records.ensures)) c.in_ok-setup_onto.ensures c.in_ok-run.ensures c.loop-line.invariant
 
 pub loop-line-preserved : goal.loop-line-preserved
 loop-line-preserved c =
-    before_step (book_of c.args.input.now) (vec_items c.loop-line.out) (vec_items c.refusal-onto.new.out) c.in-Some.line.now _ (lines_of c.loop-line.lines.rest.now) (lines_of c.next.new.self.rest.now) c.in-Err.refusal
-    c.in-Some.ensures.line c.in-Err.ensures.equipment c.in-ok-refusal-onto.ensures c.loop-line.invariant
+    before_step (book_of c.args.input.now) (vec_items c.loop-line.out) (vec_items c.refusal_onto.new.out) c.in-Some.line.now _ (lines_of c.loop-line.lines.rest.now) (lines_of c.next.new.self.rest.now) c.in-Err.refusal
+    c.in-Some.ensures.line c.in-Err.ensures.equipment c.in_ok-refusal_onto.ensures c.loop-line.invariant
 
 pub returns : goal.returns
 returns c = before_end (book_of c.args.input.now) (vec_items c.loop-line.out) _ (lines_of c.loop-line.lines.rest.now) c.in-default.ensures.line c.loop-line.invariant

@@ -6,8 +6,8 @@ use Rattle.trace.proofs.answer.run.Goals as goal
 
 pub loop-line-preserved : goal.loop-line-preserved
 loop-line-preserved c =
-    from_step (standing_of c.loop-line.session) (standing_of c.answer-line.new.self) (vec_items c.loop-line.out) (vec_items c.answer-line.new.out) c.in-Some.line.now _ (lines_of c.loop-line.lines.rest.now) (lines_of c.next.new.self.rest.now)
-    c.in-Some.ensures.line c.in-ok-answer-line.ensures.session c.in-ok-answer-line.ensures.text c.loop-line.invariant
+    from_step (standing_of c.loop-line.session) (standing_of c.answer_line.new.self) (vec_items c.loop-line.out) (vec_items c.answer_line.new.out) c.in-Some.line.now _ (lines_of c.loop-line.lines.rest.now) (lines_of c.next.new.self.rest.now)
+    c.in-Some.ensures.line c.in_ok-answer_line.ensures.session c.in_ok-answer_line.ensures.text c.loop-line.invariant
 
 pub returns : goal.returns
 returns c = from_end (standing_of c.loop-line.session) (vec_items c.loop-line.out) _ (lines_of c.loop-line.lines.rest.now) c.in-default.ensures.line c.loop-line.invariant

@@ -6,5 +6,5 @@ use Rattle.trace.proofs.text.line_onto.Goals as goal
 
 pub returns : goal.returns
 returns c =
-    then (vec_items c.args.out.now) (vec_items c.encode-onto.new.v) (vec_items c.push.new.self) (encoded c.args.bytes.now) (10 ∷ [])
-    c.in-ok-encode-onto.ensures.all (pushed (10 ∷ []) refl c.in-ok-push.was c.push.ensures.items)
+    then (vec_items c.args.out.now) (vec_items c.encode_onto.new.v) (vec_items c.push.new.self) (encoded c.args.bytes.now) (10 ∷ [])
+    c.in_ok-encode_onto.ensures.all (pushed (10 ∷ []) refl c.in_ok-push.was c.push.ensures.items)

@@ -8,5 +8,5 @@ use Rattle.trace.proofs.text.slot_onto.Goals as goal
 pub returns : goal.returns
 unfolding up_to_packet
 returns c =
-    then_line (vec_items c.args.out.now) (vec_items c.encode-onto.new.v) (vec_items c.line-onto.new.out) (heading (sending_of c.args.instruction)) c.args.instruction.packet.now
-    (c.in-ok-encode-onto.ensures.all ∙ ap (λ h. vec_items c.args.out.now ++ encoded h) c.heading-of.ensures) c.in-ok-line-onto.ensures
+    then_line (vec_items c.args.out.now) (vec_items c.encode_onto.new.v) (vec_items c.line_onto.new.out) (heading (sending_of c.args.instruction)) c.args.instruction.packet.now
+    (c.in_ok-encode_onto.ensures.all ∙ ap (λ h. vec_items c.args.out.now ++ encoded h) c.heading_of.ensures) c.in_ok-line_onto.ensures

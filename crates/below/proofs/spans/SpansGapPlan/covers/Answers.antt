@@ -5,5 +5,5 @@ use Rattle.below.proofs.spans.SpansGapPlan.covers.Goals as goal
 
 pub returns : goal.returns
 returns c =
-    let computed : c.some-covers.result ≡ spans_cover c.args.self.now.spans.now c.args.subframe = told_by_spans c.args.self.now.spans.now c.args.subframe c.some-covers.result c.some-covers.ensures.some c.some-covers.ensures.none in
-    record { computed = computed; some = c.some-covers.ensures.some; every = λ s. computed ∙ covers_by_some c.args.self.now.spans.now c.args.subframe s }
+    let computed : c.some_covers.result ≡ spans_cover c.args.self.now.spans.now c.args.subframe = told_by_spans c.args.self.now.spans.now c.args.subframe c.some_covers.result c.some_covers.ensures.some c.some_covers.ensures.none in
+    record { computed = computed; some = c.some_covers.ensures.some; every = λ s. computed ∙ covers_by_some c.args.self.now.spans.now c.args.subframe s }

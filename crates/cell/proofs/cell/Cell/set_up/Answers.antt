@@ -7,9 +7,9 @@ pub invariant-of-result : goal.invariant-of-result
 unfolding set_up_holds
 invariant-of-result c =
     let su : Setup = record { kind = c.in-Some.kind; max_harq_tx = c.args.max_harq_tx; max_harq_msg3_tx = c.args.max_harq_msg3_tx; interval = c.args.interval; start = c.args.start } in
-    let b = bounds_asked su c.in-ok-ask-of-setup.ensures in
+    let b = bounds_asked su c.in_ok-ask_of_setup.ensures in
     let z = sound_fresh su c.args.start b in (
-      accepts_yes (set_up_questions su) c.in-ok-ask-of-setup.ensures,
+      accepts_yes (set_up_questions su) c.in_ok-ask_of_setup.ensures,
       (
         b.least,
         (

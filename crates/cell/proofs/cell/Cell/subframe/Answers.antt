@@ -9,16 +9,16 @@ use Rattle.cell.proofs.cell.Cell.subframe.Goals as goal
 
 pub turn-requires : goal.turn-requires
 turn-requires g c =
-    let z = prepared c.args.self.now.setup c.args.self.now.state c.args.memory.now c.covers-gap.result c.args.answer c.args.grant c.take-answer.new.state c.force-g.result c.store-self.result (Some c.in-Some.k)
-    c.take-answer.ensures c.force-g.ensures c.store-self.ensures c.in-Some.ensures c.ready.result c.in-ok-ask.ensures c.in-Some.k refl
+    let z = prepared c.args.self.now.setup c.args.self.now.state c.args.memory.now c.covers-gap.result c.args.answer c.args.grant c.take_answer.new.state c.force-g.result c.store-self.result (Some c.in-Some.k)
+    c.take_answer.ensures c.force-g.ensures c.store-self.ensures c.in-Some.ensures c.ready.result c.in_ok-ask.ensures c.in-Some.k refl
     (sound_cell c.args.self.now) in
     record { sound = z.sound; sized = z.sized; named = z.named; within = (z.whole, (z.bound, z.clock)); room = sym c.ready.ensures ∙ z.room }
 
 pub invariant-of-self : goal.invariant-of-self
 invariant-of-self g c =
-    let eo : None ≡ process_of c.args.self.now.setup.kind c.args.self.now.state.clock c.force-g.result c.take-answer.new.state.repetition = search rules in
-    let z = sound-idle c.args.self.now.setup c.args.self.now.state c.args.memory.now c.covers-gap.result c.args.answer c.args.grant c.take-answer.new.state c.force-g.result c.store-self.result None
-    c.take-answer.ensures c.force-g.ensures c.store-self.ensures eo c.ready.result c.in-ok-ask.ensures (sound_cell c.args.self.now) in (
+    let eo : None ≡ process_of c.args.self.now.setup.kind c.args.self.now.state.clock c.force-g.result c.take_answer.new.state.repetition = search rules in
+    let z = sound-idle c.args.self.now.setup c.args.self.now.state c.args.memory.now c.covers-gap.result c.args.answer c.args.grant c.take_answer.new.state c.force-g.result c.store-self.result None
+    c.take_answer.ensures c.force-g.ensures c.store-self.ensures eo c.ready.result c.in_ok-ask.ensures (sound_cell c.args.self.now) in (
       c.args.self.now.accepted,
       (
         z.bounds.least,
@@ -56,9 +56,9 @@ invariant-of-self g c =
       ),
     )
 
-pub returns-in-err-ask : goal.returns-in-err-ask
-returns-in-err-ask g c =
-    let p = err_from_is_err_and c.from-residual.result c.from-residual.ensures.1 in
+pub returns-in_err-ask : goal.returns-in_err-ask
+returns-in_err-ask g c =
+    let p = err_from_is_err_and c.from_residual.result c.from_residual.ensures.1 in
     let su = c.args.self.now.setup in
     let st = c.args.self.now.state in
     let m = c.args.memory.now in
@@ -66,8 +66,8 @@ returns-in-err-ask g c =
     let o = g.S.Source.offers in
     let u = g.S.Source.used in
     let plan = g.G.GapPlan.covered c.args.gaps.now in
-    let e = c.in-err-ask.field-0.0 in
-    let no = asked_of su st (length m) c.ready.result (has_room r) c.covers-gap.result (plan st.clock) c.args.answer c.args.grant (Err e) c.ready.ensures c.covers-gap.ensures c.in-err-ask.ensures in
+    let e = c.in_err-ask.field-0.0 in
+    let no = asked_of su st (length m) c.ready.result (has_room r) c.covers-gap.result (plan st.clock) c.args.answer c.args.grant (Err e) c.ready.ensures c.covers-gap.ensures c.in_err-ask.ensures in
     rw (p.1, p.2) (record {
       whole = refused-whole o u su st m r c.args.source.now plan c.args.answer c.args.grant (accepted_cell c.args.self.now) e no;
       setup = refl;
@@ -82,7 +82,7 @@ returns-in-default g c =
     let su = c.args.self.now.setup in
     let st = c.args.self.now.state in
     let m = c.args.memory.now in
-    let s1 = c.take-answer.new.state in
+    let s1 = c.take_answer.new.state in
     let f = c.force-g.result in
     let d = c.store-self.result in
     let r = g.R.Radio.radioed c.args.radio.now in
@@ -90,8 +90,8 @@ returns-in-default g c =
     let u = g.S.Source.used in
     let plan = g.G.GapPlan.covered c.args.gaps.now in
     let eo : None ≡ process_of su.kind st.clock f s1.repetition = search rules in
-    let fits = fits-done su st m c.covers-gap.result c.args.answer c.args.grant s1 f d None c.take-answer.ensures c.force-g.ensures c.store-self.ensures eo (has_room r) (plan st.clock) (o c.args.source.now) c.covers-gap.ensures tt in
-    let e = done-whole su st m c.covers-gap.result c.args.answer c.args.grant s1 f d None c.take-answer.ensures c.force-g.ensures c.store-self.ensures eo c.ready.result c.in-ok-ask.ensures o u r c.args.source.now _ (plan st.clock) c.ready.ensures c.covers-gap.ensures refl in
+    let fits = fits-done su st m c.covers-gap.result c.args.answer c.args.grant s1 f d None c.take_answer.ensures c.force-g.ensures c.store-self.ensures eo (has_room r) (plan st.clock) (o c.args.source.now) c.covers-gap.ensures tt in
+    let e = done-whole su st m c.covers-gap.result c.args.answer c.args.grant s1 f d None c.take_answer.ensures c.force-g.ensures c.store-self.ensures eo c.ready.result c.in_ok-ask.ensures o u r c.args.source.now _ (plan st.clock) c.ready.ensures c.covers-gap.ensures refl in
     record {
       whole = e;
       setup = refl;
@@ -106,7 +106,7 @@ returns g c =
     let su = c.args.self.now.setup in
     let st = c.args.self.now.state in
     let m = c.args.memory.now in
-    let s1 = c.take-answer.new.state in
+    let s1 = c.take_answer.new.state in
     let f = c.force-g.result in
     let d = c.store-self.result in
     let r = g.R.Radio.radioed c.args.radio.now in
@@ -114,8 +114,8 @@ returns g c =
     let u = g.S.Source.used in
     let plan = g.G.GapPlan.covered c.args.gaps.now in
     let k = Some c.in-Some.k in
-    let fits = fits-done su st m c.covers-gap.result c.args.answer c.args.grant s1 f d k c.take-answer.ensures c.force-g.ensures c.store-self.ensures c.in-Some.ensures (has_room r) (plan st.clock) (o c.args.source.now) c.covers-gap.ensures c.turn.ensures.fits in
-    let e = done-whole su st m c.covers-gap.result c.args.answer c.args.grant s1 f d k c.take-answer.ensures c.force-g.ensures c.store-self.ensures c.in-Some.ensures c.ready.result c.in-ok-ask.ensures o u r c.args.source.now _ (plan st.clock) c.ready.ensures c.covers-gap.ensures c.turn.ensures.whole in
+    let fits = fits-done su st m c.covers-gap.result c.args.answer c.args.grant s1 f d k c.take_answer.ensures c.force-g.ensures c.store-self.ensures c.in-Some.ensures (has_room r) (plan st.clock) (o c.args.source.now) c.covers-gap.ensures c.turn.ensures.fits in
+    let e = done-whole su st m c.covers-gap.result c.args.answer c.args.grant s1 f d k c.take_answer.ensures c.force-g.ensures c.store-self.ensures c.in-Some.ensures c.ready.result c.in_ok-ask.ensures o u r c.args.source.now _ (plan st.clock) c.ready.ensures c.covers-gap.ensures c.turn.ensures.whole in
     record {
       whole = e;
       setup = refl;

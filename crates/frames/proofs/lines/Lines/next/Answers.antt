@@ -2,8 +2,8 @@ use Rattle.std.proofs.Common.{◌≡◌, true, eqb, length, rules, eqb-true}
 use Rattle.frames.proofs.Cutting.{lines_none, after_none}
 use Rattle.frames.proofs.lines.Lines.next.Goals as goal
 
-pub returns-then-is-empty : goal.returns-then-is-empty
-returns-then-is-empty c =
+pub returns-then-is_empty : goal.returns-then-is_empty
+returns-then-is_empty c =
     let l = c.args.self.now.rest.now in
     let t : eqb (length l) 0 ≡ true = search rules in
     let e = lines_none l (eqb-true (length l) 0 t) in
