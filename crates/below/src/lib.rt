@@ -1,5 +1,6 @@
 // Kinds of what stands below a cell: radios, sources and gap plans.
 #![tactic(auto)]
+
 pub mod book;
 pub mod heartbeat;
 pub mod mailbox;

@@ -55,9 +55,9 @@ module _ (su : Setup) (st : State) (m : List ℕ) (gap : Bool) (a : Option Feedb
       turned s1 f c o = after_events (answer_events (answering su.kind st.clock) st.clock a gap) (turn_done su (with_configured s1 c) m gap offers f o)
 
   -- what the source was asked for fits
-  pub fits-done : (ready covered : Bool) (offers : ℕ → Option (List ℕ)) → gap ≡ covered → FitsAsked offers (turn_done su (with_configured s1 c) m gap offers f o).asked
+  pub fits_done : (ready covered : Bool) (offers : ℕ → Option (List ℕ)) → gap ≡ covered → FitsAsked offers (turn_done su (with_configured s1 c) m gap offers f o).asked
       → FitsAsked offers (subframe_done su st m (record { ready = ready; gap = covered; answer = a; grant = g; offers = offers })).asked
-  fits-done ready covered offers eg h =
+  fits_done ready covered offers eg h =
       let P : Done → Type 0 = λ d. FitsAsked offers d.asked in
       let Q : Bool → Type 0 = λ b. FitsAsked offers (subframe_done su st m (record { ready = ready; gap = b; answer = a; grant = g; offers = offers })).asked in
       subst Q eg (subst P (staged ready offers) h)
@@ -74,8 +74,8 @@ module _ (su : Setup) (st : State) (m : List ℕ) (gap : Bool) (a : Option Feedb
       pub room : ready ≡ true
 
     -- a subframe with no process
-    pub sound-idle : Sound su st → Sound su (clock_moved (with_configured s1 c))
-    sound-idle h =
+    pub sound_idle : Sound su st → Sound su (clock_moved (with_configured s1 c))
+    sound_idle h =
         let S : State → Type 0 = λ x. Sound su x in
         let y = admitted su st (length m) ready gap a g yes in
         sound_moved su (with_configured s1 c) (subst S (ap (with_configured s1) (sym ec)) (sound_stored su s1 st.clock g (subst S (sym es) (sound_heard su st gap a h)) y.fields))
@@ -108,14 +108,14 @@ module _ (su : Setup) (st : State) (m : List ℕ) (gap : Bool) (a : Option Feedb
       accepted : answered (subframe_done su st m given) ≡ after_result offers used st m r s (unless_refused (questioned su st (length m) ready gap a g) (subframe_done su st m given))
       accepted = ap (λ q. after_result offers used st m r s (unless_refused q (subframe_done su st m given))) yes
 
-      abbrev as-ok : After S Reply → After S (Result Reply Refusal)
-      as-ok x = record { answer = Ok x.answer; state = x.state; memory = x.memory; radio = x.radio; source = x.source }
+      abbrev as_ok : After S Reply → After S (Result Reply Refusal)
+      as_ok x = record { answer = Ok x.answer; state = x.state; memory = x.memory; radio = x.radio; source = x.source }
 
-      pub done-whole : (x : After S Reply) (covered : Bool) → ready ≡ has_room r → gap ≡ covered
+      pub done_whole : (x : After S Reply) (covered : Bool) → ready ≡ has_room r → gap ≡ covered
           → x ≡ after_done offers used r s (turn_done su (with_configured s1 c) m gap (offers s) f o).reply (turn_done su (with_configured s1 c) m gap (offers s) f o)
-          → as-ok x ≡ after_subframe offers used su st m r s covered a g
-      done-whole x covered er eg e =
-          ap as-ok e ∙ ap answered (staged ready (offers s)) ∙ accepted
+          → as_ok x ≡ after_subframe offers used su st m r s covered a g
+      done_whole x covered er eg e =
+          ap as_ok e ∙ ap answered (staged ready (offers s)) ∙ accepted
           ∙ ap (λ b. after_result offers used st m r s (unless_refused (questioned su st (length m) b gap a g) (subframe_done su st m (record { ready = b; gap = gap; answer = a; grant = g; offers = offers s })))) er
           ∙ ap (λ b. after_subframe offers used su st m r s b a g) eg
 

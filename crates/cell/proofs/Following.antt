@@ -32,31 +32,31 @@ module _ {S : Type 0} (offers : S → ℕ → Option (List ℕ)) (used : S → �
   abbrev over : Brought
   over = brought_over a g gaps (offers s) r
 
-  abbrev asked-for : Given
-  asked-for = record { ready = has_room r; gap = gaps st.clock; answer = a; grant = g; offers = offers s }
+  abbrev asked_for : Given
+  asked_for = record { ready = has_room r; gap = gaps st.clock; answer = a; grant = g; offers = offers s }
 
-  module _ (fits : FitsAsked (offers s) (subframe_done su st m asked-for).asked) where
+  module _ (fits : FitsAsked (offers s) (subframe_done su st m asked_for).asked) where
     -- the subframe over the source, and over what of it fits
     abbrev done : Done
-    done = subframe_done su st m asked-for
+    done = subframe_done su st m asked_for
 
-    abbrev done-fitting : Done
-    done-fitting = subframe_done su st m (with_offers asked-for (fitting (offers s)))
+    abbrev done_fitting : Done
+    done_fitting = subframe_done su st m (with_offers asked_for (fitting (offers s)))
 
     abbrev answers : Result (Unit {0}) Refusal
     answers = questioned su st (length m) (has_room r) (gaps st.clock) a g
 
-    same-done : Ok tt ≡ answers → done ≡ done-fitting
-    same-done e =
-        let both : Ok done ≡ Ok done-fitting = subst (λ q. unless_refused q done ≡ unless_refused q done-fitting) (sym e) (subframe_fitting su st m asked-for (fits_asked (offers s) done.asked fits)) in
+    same_done : Ok tt ≡ answers → done ≡ done_fitting
+    same_done e =
+        let both : Ok done ≡ Ok done_fitting = subst (λ q. unless_refused q done ≡ unless_refused q done_fitting) (sym e) (subframe_fitting su st m asked_for (fits_asked (offers s) done.asked fits)) in
         cc
 
     followed : (q : Result (Unit {0}) Refusal) → answers ≡ q → let x = after_result offers used st m r s (unless_refused q done) in ByTheStandard su here over x.answer r x.radio
     followed (Err e) z = refl
     followed (Ok u) z =
-        let same = same-done (sym z) in
+        let same = same_done (sym z) in
         sends_by_the_standard su here over (λ x. told r done.sending ≡ told r x) accepted (sym z) (ap (λ d. told r d.sending) same)
         (λ x e. told_once r done.sending x e ∙ ap (λ d. d.sending) same)
 
-    pub subframe-standard : (x : After S (Result Reply Refusal)) → x ≡ after_subframe offers used su st m r s (gaps st.clock) a g → ByTheStandard su here over x.answer r x.radio
-    subframe-standard x e = subst (λ z. ByTheStandard su here over z.answer r z.radio) (sym e) (followed answers refl)
+    pub subframe_standard : (x : After S (Result Reply Refusal)) → x ≡ after_subframe offers used su st m r s (gaps st.clock) a g → ByTheStandard su here over x.answer r x.radio
+    subframe_standard x e = subst (λ z. ByTheStandard su here over z.answer r z.radio) (sym e) (followed answers refl)

@@ -70,75 +70,75 @@ module _ {S : Type 0} (offers : S → ℕ → Option (List ℕ)) (used : S → �
   abbrev here : World
   here = world st m r.count
 
-  abbrev asked-for : Given
-  asked-for = record { ready = has_room r; gap = gaps st.clock; answer = a; grant = g; offers = offers s }
+  abbrev asked_for : Given
+  asked_for = record { ready = has_room r; gap = gaps st.clock; answer = a; grant = g; offers = offers s }
 
-  module _ (fits : FitsAsked (offers s) (subframe_done su st m asked-for).asked) where
+  module _ (fits : FitsAsked (offers s) (subframe_done su st m asked_for).asked) where
     -- the step of the run is that of the call's own rules
-    same_step : step su here call ≡ step_of here (subframe_step here (subframe su st m asked-for))
-    same_step = ap (λ d. step_of here (subframe_step here d)) (sym (subframe_fitting su st m asked-for (fits_asked (offers s) (subframe_done su st m asked-for).asked fits)))
+    same_step : step su here call ≡ step_of here (subframe_step here (subframe su st m asked_for))
+    same_step = ap (λ d. step_of here (subframe_step here d)) (sym (subframe_fitting su st m asked_for (fits_asked (offers s) (subframe_done su st m asked_for).asked fits)))
 
-    count-told : (d : Done) → (step_of here (subframe_step here (Ok d))).world ≡ world d.state d.memory (told r d.sending).count
-    count-told d = go d.sending
+    count_told : (d : Done) → (step_of here (subframe_step here (Ok d))).world ≡ world d.state d.memory (told r d.sending).count
+    count_told d = go d.sending
       where
         go : (x : Option Sending) → (step_of here (subframe_step here (Ok (record { reply = d.reply; state = d.state; memory = d.memory; asked = d.asked; sending = x; events = d.events })))).world ≡ world d.state d.memory (told r x).count
         go None = refl
         go (Some x) = refl
 
-    world-of : (d : Result Done Refusal) → let x = after_result offers used st m r s d in (step_of here (subframe_step here d)).world ≡ world x.state x.memory x.radio.count
-    world-of (Err e) = refl
-    world-of (Ok d) = count-told d
+    world_of : (d : Result Done Refusal) → let x = after_result offers used st m r s d in (step_of here (subframe_step here d)).world ≡ world x.state x.memory x.radio.count
+    world_of (Err e) = refl
+    world_of (Ok d) = count_told d
 
-    pub subframe-keeps : (x : After S (Result Reply Refusal)) → x ≡ after_subframe offers used su st m r s (gaps st.clock) a g → KeepsPromise su here call (world x.state x.memory x.radio.count)
-    subframe-keeps x e =
+    pub subframe_keeps : (x : After S (Result Reply Refusal)) → x ≡ after_subframe offers used su st m r s (gaps st.clock) a g → KeepsPromise su here call (world x.state x.memory x.radio.count)
+    subframe_keeps x e =
         keeps su here (world x.state x.memory x.radio.count) call accepted
-        (ap (λ z. z.world) same_step ∙ world-of (subframe su st m asked-for) ∙ ap (λ z. world z.state z.memory z.radio.count) (sym e))
+        (ap (λ z. z.world) same_step ∙ world_of (subframe su st m asked_for) ∙ ap (λ z. world z.state z.memory z.radio.count) (sym e))
 
     -- the latest instruction
-    pub subframe-latest : (x : After S (Result Reply Refusal)) → x ≡ after_subframe offers used su st m r s (gaps st.clock) a g → x.radio.latest ≡ latest_after su here call r.latest
-    subframe-latest x e =
+    pub subframe_latest : (x : After S (Result Reply Refusal)) → x ≡ after_subframe offers used su st m r s (gaps st.clock) a g → x.radio.latest ≡ latest_after su here call r.latest
+    subframe_latest x e =
         ap (λ z. z.radio.latest) e
-        ∙ latest-of (questioned su st (length m) (has_room r) (gaps st.clock) a g)
+        ∙ latest_of (questioned su st (length m) (has_room r) (gaps st.clock) a g)
         ∙ ap (λ z. latest_sent z.events r.latest) (sym same_step)
       where
         done : Done
-        done = subframe_done su st m asked-for
+        done = subframe_done su st m asked_for
 
-        latest-of : (q : Result (Unit {0}) Refusal) → (after_result offers used st m r s (unless_refused q done)).radio.latest ≡ latest_sent (step_of here (subframe_step here (unless_refused q done))).events r.latest
-        latest-of (Err z) = refl
-        latest-of (Ok u) = done_latest r su (with_configured heard-now (stored_after st.clock st.configured g)) m (gaps st.clock) (offers s) in_force (process_of su.kind st.clock in_force st.repetition) (answering su.kind st.clock) st.clock a
+        latest_of : (q : Result (Unit {0}) Refusal) → (after_result offers used st m r s (unless_refused q done)).radio.latest ≡ latest_sent (step_of here (subframe_step here (unless_refused q done))).events r.latest
+        latest_of (Err z) = refl
+        latest_of (Ok u) = done_latest r su (with_configured heard_now (stored_after st.clock st.configured g)) m (gaps st.clock) (offers s) in_force (process_of su.kind st.clock in_force st.repetition) (answering su.kind st.clock) st.clock a
           where
-            heard-now : State
-            heard-now = heard su st (gaps st.clock) a
+            heard_now : State
+            heard_now = heard su st (gaps st.clock) a
 
             in_force : Option GrantInForce
             in_force = grant_in_force su st.clock st.configured g
 
   -- a refused call leaves the world as it was
   module _ (e : Refusal) (no : Err e ≡ questioned su st (length m) (has_room r) (gaps st.clock) a g) where
-    refused-step : step su here call ≡ record { world = here; events = [] }
-    refused-step = ap (λ q. step_of here (subframe_step here (unless_refused q (subframe_done su st m (with_offers asked-for (fitting (offers s))))))) (sym no)
+    refused_step : step su here call ≡ record { world = here; events = [] }
+    refused_step = ap (λ q. step_of here (subframe_step here (unless_refused q (subframe_done su st m (with_offers asked_for (fitting (offers s))))))) (sym no)
 
-    pub refused-keeps : KeepsPromise su here call here
-    refused-keeps = keeps su here here call accepted (ap (λ z. z.world) refused-step)
+    pub refused_keeps : KeepsPromise su here call here
+    refused_keeps = keeps su here here call accepted (ap (λ z. z.world) refused_step)
 
-    pub refused-latest : r.latest ≡ latest_after su here call r.latest
-    refused-latest = ap (λ z. latest_sent z.events r.latest) (sym refused-step)
+    pub refused_latest : r.latest ≡ latest_after su here call r.latest
+    refused_latest = ap (λ z. latest_sent z.events r.latest) (sym refused_step)
 
-    pub refused-whole : ◌≡◌ {A = After S (Result Reply Refusal)} (record { answer = Err e; state = st; memory = m; radio = r; source = s }) (after_subframe offers used su st m r s (gaps st.clock) a g)
-    refused-whole = ap (λ q. after_result offers used st m r s (unless_refused q (subframe_done su st m asked-for))) no
+    pub refused_whole : ◌≡◌ {A = After S (Result Reply Refusal)} (record { answer = Err e; state = st; memory = m; radio = r; source = s }) (after_subframe offers used su st m r s (gaps st.clock) a g)
+    refused_whole = ap (λ q. after_result offers used st m r s (unless_refused q (subframe_done su st m asked_for))) no
 
 -- the Msg3 calls
 module _ (su : Setup) (st : State) (m : List ℕ) (n : ℕ) (accepted : Accepted su) where
-  filed-world : (es : List Event) (l : Result Left Refusal) → let x = after_left st m l in (step_of (world st m n) (msg3_step (world st m n) es l)).world ≡ world x.state x.memory n
-  filed-world es (Ok l) = refl
-  filed-world es (Err e) = refl
+  filed_world : (es : List Event) (l : Result Left Refusal) → let x = after_left st m l in (step_of (world st m n) (msg3_step (world st m n) es l)).world ≡ world x.state x.memory n
+  filed_world es (Ok l) = refl
+  filed_world es (Err e) = refl
 
-  pub deposit-keeps : (b : List ℕ) (x : Filed) → x ≡ after_deposit st m b → KeepsPromise su (world st m n) (deposit_call b) (world x.state x.memory n)
-  deposit-keeps b x e = keeps su (world st m n) (world x.state x.memory n) (deposit_call b) accepted (filed-world (deposits b ∷ []) (deposit st m b) ∙ ap (λ z. world z.state z.memory n) (sym e))
+  pub deposit_keeps : (b : List ℕ) (x : Filed) → x ≡ after_deposit st m b → KeepsPromise su (world st m n) (deposit_call b) (world x.state x.memory n)
+  deposit_keeps b x e = keeps su (world st m n) (world x.state x.memory n) (deposit_call b) accepted (filed_world (deposits b ∷ []) (deposit st m b) ∙ ap (λ z. world z.state z.memory n) (sym e))
 
-  pub withdrawal-keeps : (x : Filed) → x ≡ after_withdrawal st m → KeepsPromise su (world st m n) withdrawal_call (world x.state x.memory n)
-  withdrawal-keeps x e = keeps su (world st m n) (world x.state x.memory n) withdrawal_call accepted (filed-world [] (withdrawal st m) ∙ ap (λ z. world z.state z.memory n) (sym e))
+  pub withdrawal_keeps : (x : Filed) → x ≡ after_withdrawal st m → KeepsPromise su (world st m n) withdrawal_call (world x.state x.memory n)
+  withdrawal_keeps x e = keeps su (world st m n) (world x.state x.memory n) withdrawal_call accepted (filed_world [] (withdrawal st m) ∙ ap (λ z. world z.state z.memory n) (sym e))
 
 -- what the questions of the Msg3 calls make of them
 pub deposit_refused : (st : State) (m b : List ℕ) (e : Refusal) → Err e ≡ first_no (deposit_questions (length m) (length b) st.msg3) → ◌≡◌ {A = Filed} (record { answer = Err e; state = st; memory = m }) (after_deposit st m b)

@@ -15,17 +15,17 @@ use Rattle.rules.specs.Invariant.{Good, Sound, SizedGrant, NamedBelow, Sane, Obt
 use Rattle.rules.proofs.Keeping.{good_referred, sane, loaded_work, good_concluded, sound_finished, repeated_after}
 
 module _ (su : Setup) (st : State) (m : List ℕ) (offers : ℕ → Option (List ℕ)) (g : Option GrantInForce) (k : ℕ) (h : Sound su st) (z : SizedGrant g) (l : k < 8) where
-  pub loaded-turn : (q p : Process) (d : Decision) (w : Work)
+  pub loaded_turn : (q p : Process) (d : Decision) (w : Work)
       → q ≡ process_at st.processes k → p ≡ referred g q → d ≡ decided su g p → Obtains d st.msg3 m offers → w ≡ work_of (course su d st.msg3 m offers p) → LoadedWork su w
-  loaded-turn q p d w eq ep ed o ew =
+  loaded_turn q p d w eq ep ed o ew =
       let G : Process → Type 0 = λ x. Good su x in
       let S : Decision → Type 0 = λ x. Sane p x in
       let L : Work → Type 0 = λ x. LoadedWork su x in
       subst L (sym ew) (loaded_work su d st.msg3 m offers p h.bounds (subst G (sym ep) (good_referred su g q (subst G (sym eq) (h.good k l)))) (subst S (sym ed) (sane su g p z)) o)
 
-  pub sound-turn : (gap : Bool) (w : Work) (c : Conclusion) (r : Option Repetition) (st' : State) → NamedBelow su.kind g → LoadedWork su w
+  pub sound_turn : (gap : Bool) (w : Work) (c : Conclusion) (r : Option Repetition) (st' : State) → NamedBelow su.kind g → LoadedWork su w
       → c ≡ concluded su k gap w → r ≡ repetition_after su.kind st.clock g w st.repetition → st' ≡ finished st k r c → Sound su st'
-  sound-turn gap w c r st' n lw ec er es =
+  sound_turn gap w c r st' n lw ec er es =
       let G : Conclusion → Type 0 = λ x. Good su x.process in
       let R : Option Repetition → Type 0 = λ x. repeated_process x < 8 in
       let S : State → Type 0 = λ x. Sound su x in

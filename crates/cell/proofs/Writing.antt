@@ -33,8 +33,8 @@ module _ (g : GrantInForce) (msg3 : Option ℕ) (m : List ℕ) (offers : ℕ →
   pub msg3_packet : length (part m 8 n) ≡ n → marked n ≡ new_packet (obtained g msg3 m offers)
   msg3_packet z = ap marked (sym z) ∙ ap new_packet from_msg3
 
-  pub msg3-sized : length (part m 8 n) ≡ n → 1 ≤ n → n ≤ 645 → FreshSized (obtained g msg3 m offers)
-  msg3-sized z l u =
+  pub msg3_sized : length (part m 8 n) ≡ n → 1 ≤ n → n ≤ 645 → FreshSized (obtained g msg3 m offers)
+  msg3_sized z l u =
       let P : Option Fresh → Type 0 = λ f. FreshSized f in
       subst P from_msg3 (omega arith, omega arith)
 

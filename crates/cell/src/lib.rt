@@ -1,5 +1,6 @@
 // The cell: its set-up and its calls.
 #![tactic(auto)]
+
 pub mod cell;
 mod entity;
 mod memory;

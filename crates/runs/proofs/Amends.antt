@@ -53,40 +53,40 @@ goings k [] = 0
 goings k (s ∷ ss) = one_if (goes_on k s) + goings k ss
 
 module _ (k : ℕ) (f : Stay → Stay) where
-  pub all-amended : (P P' : Stay → Type 0) → ((s : Stay) → goes_on k s ≡ true → P s → P' (f s)) → ((s : Stay) → goes_on k s ≡ false → P s → P' s) → (ss : List Stay) → All P ss → All P' (amend k f ss)
-  all-amended P P' h h' [] a = tt
-  all-amended P P' h h' (s ∷ ss) a = (go (goes_on k s) refl, all-amended P P' h h' ss a.1)
+  pub all_amended : (P P' : Stay → Type 0) → ((s : Stay) → goes_on k s ≡ true → P s → P' (f s)) → ((s : Stay) → goes_on k s ≡ false → P s → P' s) → (ss : List Stay) → All P ss → All P' (amend k f ss)
+  all_amended P P' h h' [] a = tt
+  all_amended P P' h h' (s ∷ ss) a = (go (goes_on k s) refl, all_amended P P' h h' ss a.1)
     where
       go : (b : Bool) → goes_on k s ≡ b → P' (cond b (f s) s)
       go true e = h s e a.0
       go false e = h' s e a.0
 
   -- each stay that goes on gains d
-  pub total-amended : (w : Stay → ℕ) (d : ℕ) → ((s : Stay) → w (f s) ≡ w s + d) → (ss : List Stay) → total w (amend k f ss) ≡ total w ss + goings k ss * d
-  total-amended w d h [] = omega arith
-  total-amended w d h (s ∷ ss) = go (goes_on k s) (total-amended w d h ss)
+  pub total_amended : (w : Stay → ℕ) (d : ℕ) → ((s : Stay) → w (f s) ≡ w s + d) → (ss : List Stay) → total w (amend k f ss) ≡ total w ss + goings k ss * d
+  total_amended w d h [] = omega arith
+  total_amended w d h (s ∷ ss) = go (goes_on k s) (total_amended w d h ss)
     where
       go : (b : Bool) → total w (amend k f ss) ≡ total w ss + goings k ss * d → w (cond b (f s) s) + total w (amend k f ss) ≡ w s + total w ss + (one_if b + goings k ss) * d
       go true ih = let e : (1 + goings k ss) * d ≡ d + goings k ss * d = search arith in omega (arith, h s)
       go false ih = omega arith
 
-  pub length-amended : (ss : List Stay) → length (amend k f ss) ≡ length ss
-  length-amended [] = refl
-  length-amended (s ∷ ss) = ap suc (length-amended ss)
+  pub length_amended : (ss : List Stay) → length (amend k f ss) ≡ length ss
+  length_amended [] = refl
+  length_amended (s ∷ ss) = ap suc (length_amended ss)
 
 module _ (k : ℕ) (f : Stay → Stay) (leaves : Leaves f) where
-  pub goings-other : (j : ℕ) → j ≢ k → (ss : List Stay) → goings j (amend k f ss) ≡ goings j ss
-  goings-other j ne [] = refl
-  goings-other j ne (s ∷ ss) = ap₂ (λ b n. one_if b + n) (go (goes_on k s) refl) (goings-other j ne ss)
+  pub goings_other : (j : ℕ) → j ≢ k → (ss : List Stay) → goings j (amend k f ss) ≡ goings j ss
+  goings_other j ne [] = refl
+  goings_other j ne (s ∷ ss) = ap₂ (λ b n. one_if b + n) (go (goes_on k s) refl) (goings_other j ne ss)
     where
       go : (b : Bool) → goes_on k s ≡ b → goes_on j (cond b (f s) s) ≡ goes_on j s
       go true e = let p = (going_facts k s e).process in going_other j k (f s) (ap (λ b. b.process) (leaves s) ∙ p) ne ∙ sym (going_other j k s p ne)
       go false e = refl
 
   -- the stays go on
-  pub goings-same : ((s : Stay) → (f s).ended ≡ s.ended) → (ss : List Stay) → goings k (amend k f ss) ≡ goings k ss
-  goings-same same [] = refl
-  goings-same same (s ∷ ss) = ap₂ (λ b n. one_if b + n) (go (goes_on k s)) (goings-same same ss)
+  pub goings_same : ((s : Stay) → (f s).ended ≡ s.ended) → (ss : List Stay) → goings k (amend k f ss) ≡ goings k ss
+  goings_same same [] = refl
+  goings_same same (s ∷ ss) = ap₂ (λ b n. one_if b + n) (go (goes_on k s)) (goings_same same ss)
     where
       go : (b : Bool) → goes_on k (cond b (f s) s) ≡ goes_on k s
       go true = ap₂ (λ b o. eqb b.process k && not (is_some o)) (leaves s) (same s)
@@ -98,10 +98,10 @@ goings_over k f over [] = refl
 goings_over k f over (s ∷ ss) = ap₂ (λ b n. one_if b + n) (go (goes_on k s) refl) (goings_over k f over ss)
   where
     go : (b : Bool) → goes_on k s ≡ b → goes_on k (cond b (f s) s) ≡ false
-    go true e = ended-not k (f s) (over s)
+    go true e = ended_not k (f s) (over s)
       where
-        ended-not : (k : ℕ) (s : Stay) → is_some s.ended ≡ true → goes_on k s ≡ false
-        ended-not k s u = ap (λ b. eqb s.beginning.process k && not b) u ∙ and_none (eqb s.beginning.process k)
+        ended_not : (k : ℕ) (s : Stay) → is_some s.ended ≡ true → goes_on k s ≡ false
+        ended_not k s u = ap (λ b. eqb s.beginning.process k && not b) u ∙ and_none (eqb s.beginning.process k)
           where
             and_none : (b : Bool) → (b && false) ≡ false
             and_none true = refl

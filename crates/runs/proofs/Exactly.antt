@@ -5,7 +5,7 @@ use Rattle.rules.specs.Subframe.{Event, answers, meets, starts, sends, flushes, 
 use Rattle.runs.specs.Runs.{Past, world_now, happened}
 use Rattle.runs.specs.Stays.{Stay, Log, recorded, recorded_all, empty_log, with_met, with_sending, with_end, replaced, answer_met, subframe_met, passing, passing_of_stays, sendings_of_stays, sendings_of_run, starts_of_run}
 use Rattle.runs.specs.Promise.{stays_of, Counted, Exact}
-use Rattle.runs.proofs.Amends.{length-amended}
+use Rattle.runs.proofs.Amends.{length_amended}
 
 all_pass : (xs : List Sending) → passing (λ x. true) xs ≡ length xs
 all_pass [] = refl
@@ -18,11 +18,11 @@ all_of_stays (s ∷ ss) = let e = all_pass s.sendings in let f = all_of_stays ss
 -- each new transmission begins one stay
 stays_begun : (es : List Event) (l : Log) → length (recorded_all es l).stays ≡ length l.stays + starts_of_run es
 stays_begun [] l = omega arith
-stays_begun (answers k t a gap ∷ es) l = stays_begun es (recorded (answers k t a gap) l) ∙ ap (λ n. n + starts_of_run es) (length-amended k (with_met (answer_met t a gap)) l.stays)
-stays_begun (meets k t g gap starved ∷ es) l = stays_begun es (recorded (meets k t g gap starved) l) ∙ ap (λ n. n + starts_of_run es) (length-amended k (with_met (subframe_met t g gap starved)) l.stays)
-stays_begun (starts b ∷ es) l = let e = length-amended b.process (replaced b.first) l.stays in let f = stays_begun es (recorded (starts b) l) in omega arith
-stays_begun (sends x ∷ es) l = stays_begun es (recorded (sends x) l) ∙ ap (λ n. n + starts_of_run es) (length-amended x.process (with_sending x) l.stays)
-stays_begun (flushes k t ∷ es) l = stays_begun es (recorded (flushes k t) l) ∙ ap (λ n. n + starts_of_run es) (length-amended k (with_end t) l.stays)
+stays_begun (answers k t a gap ∷ es) l = stays_begun es (recorded (answers k t a gap) l) ∙ ap (λ n. n + starts_of_run es) (length_amended k (with_met (answer_met t a gap)) l.stays)
+stays_begun (meets k t g gap starved ∷ es) l = stays_begun es (recorded (meets k t g gap starved) l) ∙ ap (λ n. n + starts_of_run es) (length_amended k (with_met (subframe_met t g gap starved)) l.stays)
+stays_begun (starts b ∷ es) l = let e = length_amended b.process (replaced b.first) l.stays in let f = stays_begun es (recorded (starts b) l) in omega arith
+stays_begun (sends x ∷ es) l = stays_begun es (recorded (sends x) l) ∙ ap (λ n. n + starts_of_run es) (length_amended x.process (with_sending x) l.stays)
+stays_begun (flushes k t ∷ es) l = stays_begun es (recorded (flushes k t) l) ∙ ap (λ n. n + starts_of_run es) (length_amended k (with_end t) l.stays)
 stays_begun (deposits b ∷ es) l = stays_begun es (recorded (deposits b) l)
 
 pub exact_of : (p : Past) → Counted p → Exact p

@@ -22,11 +22,11 @@ use Rattle.rules.specs.Entity.{process_at, wants_new, spares, decided_by, decide
 use Rattle.rules.specs.Subframe.{Beginning, Event, meets, Done, concluded, sending, sending_by, sending_if, process_events, start_events, is_starved, repetition_by, repetition_after, one_if, finished}
 use Rattle.runs.specs.Runs.{count_after}
 use Rattle.runs.specs.Stays.{Met, subframe_met, Stay, Log, goes_on, amend, with_met, with_end, replaced, new_stay, with_stays, recorded_all, subframe_of, met_after, surrounded_all, repetitions, repetitions_met, total, passing, passing_of_run, passing_of_stays, sendings_of_stays}
-use Rattle.runs.proofs.Memory.{part-written, part-other}
-use Rattle.runs.proofs.Amends.{none_some, Going, going_facts, goings, total-amended, length-amended, goings-other, goings-same, goings_over, amend_twice}
-use Rattle.runs.proofs.Life.{Life, life, carried_out, tried, first_process, sent_by, sent_if, end_if, sent_if_length, life-fit, Same, referred_same, transmitted_held, Ordered, none_after}
+use Rattle.runs.proofs.Memory.{part_written, part_other}
+use Rattle.runs.proofs.Amends.{none_some, Going, going_facts, goings, total_amended, length_amended, goings_other, goings_same, goings_over, amend_twice}
+use Rattle.runs.proofs.Life.{Life, life, carried_out, tried, first_process, sent_by, sent_if, end_if, sent_if_length, life_fit, Same, referred_same, transmitted_held, Ordered, none_after}
 use Rattle.runs.proofs.Questions.{left, Paced, FreshOk}
-use Rattle.runs.proofs.Tied.{Scene, scene, scene_with, life_of, Tied, Good, Change, life-more, good-amended, end_or, amended, begun_stay, tail_events, tail_amended, tail_begun, tail_surrounded, granted_repetitions, room_after, room_new, fewer_next, fewer_after}
+use Rattle.runs.proofs.Tied.{Scene, scene, scene_with, life_of, Tied, Good, Change, life_more, good_amended, end_or, amended, begun_stay, tail_events, tail_amended, tail_begun, tail_surrounded, granted_repetitions, room_after, room_new, fewer_next, fewer_after}
 
 -- the surroundings after some events
 abbrev pub met_with : List Event → (ℕ → List Met) → ℕ → List Met
@@ -126,14 +126,14 @@ renewed_first su g y n m p e w a = subst (λ g. wants_new y.reception (referred 
 
 -- A process changes, and the others do not.
 module _ (ps : List Process) (k : ℕ) (p' : Process) (eight : length ps ≡ 8) (lt : k < 8) where
-  pub own-process : process_at (set ps k p') k ≡ p'
-  own-process = let here : k < length ps = omega arith in get_or-set_same ps k p' idle here
+  pub own_process : process_at (set ps k p') k ≡ p'
+  own_process = let here : k < length ps = omega arith in get_or-set_same ps k p' idle here
 
-  pub one-after : (ss ss' : List Stay) → One ps ss → ((j : ℕ) → j ≢ k → goings j ss' ≡ goings j ss) → goings k ss' ≡ one_if (holds_packet p') → One (set ps k p') ss'
-  one-after ss ss' one others own j jlt = go (cases_eq j k)
+  pub one_after : (ss ss' : List Stay) → One ps ss → ((j : ℕ) → j ≢ k → goings j ss' ≡ goings j ss) → goings k ss' ≡ one_if (holds_packet p') → One (set ps k p') ss'
+  one_after ss ss' one others own j jlt = go (cases_eq j k)
     where
       go : (j ≡ k) ⊎ (j ≡ k → ⊥) → goings j ss' ≡ one_if (holds_packet (process_at (set ps k p') j))
-      go (inl e) = subst (λ i. goings i ss' ≡ one_if (holds_packet (process_at (set ps k p') i))) (sym e) (own ∙ ap (λ q. one_if (holds_packet q)) (sym own-process))
+      go (inl e) = subst (λ i. goings i ss' ≡ one_if (holds_packet (process_at (set ps k p') i))) (sym e) (own ∙ ap (λ q. one_if (holds_packet q)) (sym own_process))
       go (inr ne) = others j ne ∙ one j jlt ∙ ap (λ q. one_if (holds_packet q)) (sym (get_or-set_other ps k j p' idle ne))
 
 pub process_change : (st : State) (m m' : List ℕ) (met met' : ℕ → List Met) (k : ℕ) (p' : Process) (r' : Option Repetition) (t : ℕ) (x : Met) → st.clock ≤ t → subframe_of x ≡ st.clock
@@ -186,10 +186,10 @@ one_le true = omega arith
 one_le false = omega arith
 
 total_one : (k : ℕ) (f : Stay → Stay) (w : Stay → ℕ) (d : ℕ) → ((s : Stay) → w (f s) ≡ w s + d) → (ss : List Stay) → goings k ss ≡ 1 → total w (amend k f ss) ≡ total w ss + d
-total_one k f w d h ss e = total-amended k f w d h ss ∙ ap (λ n. total w ss + n * d) e ∙ (let z : total w ss + 1 * d ≡ total w ss + d = omega arith in z)
+total_one k f w d h ss e = total_amended k f w d h ss ∙ ap (λ n. total w ss + n * d) e ∙ (let z : total w ss + 1 * d ≡ total w ss + d = omega arith in z)
 
 pub total_same : (k : ℕ) (f : Stay → Stay) (w : Stay → ℕ) → ((s : Stay) → w (f s) ≡ w s) → (ss : List Stay) → total w (amend k f ss) ≡ total w ss
-total_same k f w h ss = total-amended k f w 0 (λ s. h s ∙ (let z : w s ≡ w s + 0 = omega arith in z)) ss ∙ (let z : total w ss + goings k ss * 0 ≡ total w ss = omega arith in z)
+total_same k f w h ss = total_amended k f w 0 (λ s. h s ∙ (let z : w s ≡ w s + 0 = omega arith in z)) ss ∙ (let z : total w ss + goings k ss * 0 ≡ total w ss = omega arith in z)
 
 -- repetitions that a stay met
 met_granted : (t : ℕ) (g : Option GrantInForce) (gap : Bool) (ms : List Met) → repetitions_met (subframe_met t g gap false ∷ ms) ≡ granted_repetitions g + repetitions_met ms
@@ -223,17 +223,17 @@ module _ (su : Setup) (st : State) (m : List ℕ) (gap : Bool) (g : Option Grant
   lives starve c' ch s e h =
       let i = going_facts k s e in
       let now : process_at st.processes k ≡ (life_of su (met s.beginning.process) s).process = ap (process_at st.processes) (sym i.process) ∙ (h.going i.unended).state in
-      life-more su k (subframe_met st.clock g gap starve) (scene st m met) c' ch s e h
+      life_more su k (subframe_met st.clock g gap starve) (scene st m met) c' ch s e h
       ∙ ap₂ (λ q xs. carried_out su s.beginning st.clock gap starve (decided su g (referred g q)) (referred g q) xs) (sym now) (sym h.sent)
 
   -- the stay that goes on still does, or is given up
-  good-on : (starve : Bool) (p' : Process) (r' : Option Repetition) (on : Bool) (x : Sending) (up : Bool) (met' : ℕ → List Met)
+  good_on : (starve : Bool) (p' : Process) (r' : Option Repetition) (on : Bool) (x : Sending) (up : Bool) (met' : ℕ → List Met)
       → let c' : Scene = scene_with st k p' m r' (st.clock + 1) met' in
       Change k (subframe_met st.clock g gap starve) (scene st m met) c'
       → ((s : Stay) → goes_on k s ≡ true → Good su (scene st m met) s → carried_out su s.beginning st.clock gap starve (decided su g ready) ready s.sendings ≡ record { process = p'; sendings = sent_if on x s.sendings; ended = end_if up st.clock })
       → ((s : Stay) → synchronous su.kind ≡ false → length s.sendings + left st.clock st.repetition k ≤ repetitions s → length (sent_if on x s.sendings) + left (st.clock + 1) r' k ≤ repetitions (amended (subframe_met st.clock g gap starve) on x up st.clock s))
       → All (Good su c') (amend k (amended (subframe_met st.clock g gap starve) on x up st.clock) l.stays)
-  good-on starve p' r' on x up met' ch alone room = good-amended su k (subframe_met st.clock g gap starve) (scene st m met) c' ch (amended (subframe_met st.clock g gap starve) on x up st.clock) step l.stays good
+  good_on starve p' r' on x up met' ch alone room = good_amended su k (subframe_met st.clock g gap starve) (scene st m met) c' ch (amended (subframe_met st.clock g gap starve) on x up st.clock) step l.stays good
     where
       c' : Scene
       c' = scene_with st k p' m r' (st.clock + 1) met'
@@ -246,7 +246,7 @@ module _ (su : Setup) (st : State) (m : List ℕ) (gap : Bool) (g : Option Grant
         over = end_or_none up st.clock s.ended i.unended ∙ sym (ap (λ z. z.ended) here);
         room = λ z. let a = roomy z in omega arith;
         going = λ u. record {
-          state = ap (process_at (set st.processes k p')) i.process ∙ own-process st.processes k p' eight lt ∙ sym (ap (λ z. z.process) here);
+          state = ap (process_at (set st.processes k p')) i.process ∙ own_process st.processes k p' eight lt ∙ sym (ap (λ z. z.process) here);
           stored = (h.going i.unended).stored;
           room = λ z. subst (λ j. length (sent_if on x s.sendings) + left (st.clock + 1) r' j ≤ repetitions (amended (subframe_met st.clock g gap starve) on x up st.clock s)) (sym i.process) (roomy z);
         };
@@ -261,12 +261,12 @@ module _ (su : Setup) (st : State) (m : List ℕ) (gap : Bool) (g : Option Grant
           roomy : synchronous su.kind ≡ false → length (sent_if on x s.sendings) + left (st.clock + 1) r' k ≤ repetitions (amended (subframe_met st.clock g gap starve) on x up st.clock s)
           roomy z = room s z (subst (λ j. length s.sendings + left st.clock st.repetition j ≤ repetitions s) i.process ((h.going i.unended).room z))
 
-  pub follow-rests : (a : Option ℕ) (o : Outcome) → ((s : Stay) → carried_out su s.beginning st.clock gap (is_starved o) (decided su g ready) ready s.sendings ≡ record { process = ready; sendings = s.sendings; ended = None })
+  pub follow_rests : (a : Option ℕ) (o : Outcome) → ((s : Stay) → carried_out su s.beginning st.clock gap (is_starved o) (decided su g ready) ready s.sendings ≡ record { process = ready; sendings = s.sendings; ended = None })
       → let d = done_by su st m gap g k a (rests o ready) in Followed su st m l met d (recorded_all d.events l)
-  follow-rests a o alone = record {
+  follow_rests a o alone = record {
     eight = length-set st.processes k ready ∙ eight;
-    good = good-on (is_starved o) ready st.repetition false (sending_by t k m ready) false (met_with es met) ch (λ s e h. alone s) (λ s z h. let b = met_as_many t g gap (is_starved o) s.met in let c = fewer_next t st.repetition k in omega arith);
-    one = one-after st.processes k ready eight lt l.stays (amend k f l.stays) one (λ j ne. goings-other k f (λ s. refl) j ne l.stays) (goings-same k f (λ s. refl) (λ s. refl) l.stays ∙ one k lt ∙ ap (λ q. one_if (is_some q)) (sym (referred_same g (process_at st.processes k)).buffer));
+    good = good_on (is_starved o) ready st.repetition false (sending_by t k m ready) false (met_with es met) ch (λ s e h. alone s) (λ s z h. let b = met_as_many t g gap (is_starved o) s.met in let c = fewer_next t st.repetition k in omega arith);
+    one = one_after st.processes k ready eight lt l.stays (amend k f l.stays) one (λ j ne. goings_other k f (λ s. refl) j ne l.stays) (goings_same k f (λ s. refl) (λ s. refl) l.stays ∙ one k lt ∙ ap (λ q. one_if (is_some q)) (sym (referred_same g (process_at st.processes k)).buffer));
     ordered = change_ordered k x (scene st m met) c' ch ordered;
     deposited = refl;
     msg3 = λ n h. refl;
@@ -277,7 +277,7 @@ module _ (su : Setup) (st : State) (m : List ℕ) (gap : Bool) (g : Option Grant
       count = λ n. omega arith;
       all = total_same k f (λ s. length s.sendings) (λ s. refl) l.stays ∙ (let z : sendings_of_stays l.stays ≡ sendings_of_stays l.stays + 0 = omega arith in z);
       begun = refl;
-      stays = length-amended k f l.stays ∙ (let z : length l.stays ≡ length l.stays + 0 = omega arith in z);
+      stays = length_amended k f l.stays ∙ (let z : length l.stays ≡ length l.stays + 0 = omega arith in z);
       once = λ c. total_same k f (λ s. passing c s.sendings) (λ s. refl) l.stays ∙ (let z : passing_of_stays c l.stays ≡ passing_of_stays c l.stays + 0 = omega arith in z);
     };
   }
@@ -301,15 +301,15 @@ module _ (su : Setup) (st : State) (m : List ℕ) (gap : Bool) (g : Option Grant
       ch = process_change st m m met (met_with es met) k ready st.repetition (st.clock + 1) x (omega arith) refl (λ j. refl) (λ j n h ne. refl) (λ j ne. fewer_next st.clock st.repetition j)
 
   -- a retransmission
-  pub follow-again : (a : Option ℕ) (p' : Process) (acked : Bool) → Paced su.kind st.clock g st.repetition k → holds_packet (process_at st.processes k) ≡ true → p'.buffer ≡ (process_at st.processes k).buffer
+  pub follow_again : (a : Option ℕ) (p' : Process) (acked : Bool) → Paced su.kind st.clock g st.repetition k → holds_packet (process_at st.processes k) ≡ true → p'.buffer ≡ (process_at st.processes k).buffer
       → ((s : Stay) → carried_out su s.beginning st.clock gap false (decided su g ready) ready s.sendings ≡ tried su s.beginning st.clock gap acked p' s.sendings)
       → let d = done_by su st m gap g k a (again p' acked) in Followed su st m l met d (recorded_all d.events l)
-  follow-again a p' acked paced full buffer alone =
+  follow_again a p' acked paced full buffer alone =
       subst (Followed su st m l met (done_by su st m gap g k a (again p' acked))) (sym (tail_amended (record { stays = l.stays; deposited = l.deposited; gap = gap }) k t x on y up l.stays refl))
       (record {
         eight = length-set st.processes k q ∙ eight;
-        good = good-on false q r' on y up (met_with es met) ch transmits room;
-        one = one-after st.processes k q eight lt l.stays (amend k f l.stays) one (λ j ne. goings-other k f (λ s. refl) j ne l.stays) (own up refl ∙ ap one_if (sym (transmitted_held su on p' (ap is_some buffer ∙ full))));
+        good = good_on false q r' on y up (met_with es met) ch transmits room;
+        one = one_after st.processes k q eight lt l.stays (amend k f l.stays) one (λ j ne. goings_other k f (λ s. refl) j ne l.stays) (own up refl ∙ ap one_if (sym (transmitted_held su on p' (ap is_some buffer ∙ full))));
         ordered = change_ordered k x (scene st m met) c' ch ordered;
         deposited = refl;
         msg3 = λ n h. refl;
@@ -320,7 +320,7 @@ module _ (su : Setup) (st : State) (m : List ℕ) (gap : Bool) (g : Option Grant
           count = counted_after on y;
           all = total_one k f (λ s. length s.sendings) (one_if on) (λ s. sent_length on y s.sendings) l.stays goes;
           begun = refl;
-          stays = length-amended k f l.stays ∙ (let z : length l.stays ≡ length l.stays + 0 = omega arith in z);
+          stays = length_amended k f l.stays ∙ (let z : length l.stays ≡ length l.stays + 0 = omega arith in z);
           once = λ c. total_one k f (λ s. passing c s.sendings) (passing_of_run c (tail_events on y up k t)) (λ s. sent_passing c on up k t y s.sendings) l.stays goes;
         };
       })
@@ -363,7 +363,7 @@ module _ (su : Setup) (st : State) (m : List ℕ) (gap : Bool) (g : Option Grant
 
       own : (u : Bool) → gives_up su p' ≡ u → goings k (amend k (amended x on y u t) l.stays) ≡ one_if (not u)
       own true e = goings_over k (amended x on y true t) (λ s. refl) l.stays
-      own false e = goings-same k (amended x on y false t) (λ s. refl) (λ s. refl) l.stays ∙ goes
+      own false e = goings_same k (amended x on y false t) (λ s. refl) (λ s. refl) l.stays ∙ goes
 
       transmits : (s : Stay) → goes_on k s ≡ true → Good su (scene st m met) s → carried_out su s.beginning t gap false (decided su g ready) ready s.sendings ≡ record { process = q; sendings = sent_if on y s.sendings; ended = end_if up t }
       transmits s e h = alone s ∙ ap {B = Life} (λ z. record { process = q; sendings = sent_if on z s.sendings; ended = end_if up t }) (sym carries)
@@ -375,7 +375,7 @@ module _ (su : Setup) (st : State) (m : List ℕ) (gap : Bool) (g : Option Grant
           tied = h.going i.unended
 
           size : p'.buffer ≡ Some (length s.beginning.packet)
-          size = buffer ∙ ap (λ j. (process_at st.processes j).buffer) (sym i.process) ∙ ap (λ z. z.buffer) tied.state ∙ (life-fit su s.beginning s.gap (met_after s.beginning.first (met s.beginning.process))).full (sym h.over ∙ i.unended)
+          size = buffer ∙ ap (λ j. (process_at st.processes j).buffer) (sym i.process) ∙ ap (λ z. z.buffer) tied.state ∙ (life_fit su s.beginning s.gap (met_after s.beginning.first (met s.beginning.process))).full (sym h.over ∙ i.unended)
 
           carries : y ≡ sent_by t s.beginning p'
           carries = same_sending p' t k s.beginning.process (part m k (unwrap_or p'.buffer 0)) s.beginning.packet (sym i.process)
@@ -393,20 +393,20 @@ module _ (su : Setup) (st : State) (m : List ℕ) (gap : Bool) (g : Option Grant
     abbrev beginning : Beginning
     beginning = record { process = k; first = st.clock; grant = w; from_msg3 = f.from_msg3; packet = f.packet }
 
-    pub follow-begins : (a : Option ℕ)
+    pub follow_begins : (a : Option ℕ)
         → ((s : Stay) → carried_out su s.beginning st.clock gap false (decided su g ready) ready s.sendings ≡ record { process = ready; sendings = s.sendings; ended = Some st.clock })
         → let d = done_by su st m gap g k a (begins w f (first_process su beginning)) in Followed su st m l met d (recorded_all d.events l)
-    follow-begins a alone =
-        subst (Followed su st m l met (done_by su st m gap g k a (begins w f p))) (sym log-after)
+    follow_begins a alone =
+        subst (Followed su st m l met (done_by su st m gap g k a (begins w f p))) (sym log_after)
         (record {
           eight = length-set st.processes k q ∙ eight;
-          good = (new-good, good-amended su k x (scene st m met) c' ch (with_end t) ends l.stays good);
-          one = one-after st.processes k q eight lt l.stays (s' ∷ amend k (with_end t) l.stays) one
-              (λ j ne. ap₂ (λ b n. one_if b + n) (elsewhere j ne) (goings-other k (with_end t) (λ s. refl) j ne l.stays) ∙ zero-add (goings j l.stays))
-              (ap₂ (λ b n. one_if b + n) (new-goes up) (goings_over k (with_end t) (λ s. refl) l.stays) ∙ (let z : one_if (not up) + 0 ≡ one_if (not up) = omega arith in z) ∙ ap one_if (sym (transmitted_held su on p refl)));
+          good = (new_good, good_amended su k x (scene st m met) c' ch (with_end t) ends l.stays good);
+          one = one_after st.processes k q eight lt l.stays (s' ∷ amend k (with_end t) l.stays) one
+              (λ j ne. ap₂ (λ b n. one_if b + n) (elsewhere j ne) (goings_other k (with_end t) (λ s. refl) j ne l.stays) ∙ zero-add (goings j l.stays))
+              (ap₂ (λ b n. one_if b + n) (new_goes up) (goings_over k (with_end t) (λ s. refl) l.stays) ∙ (let z : one_if (not up) + 0 ≡ one_if (not up) = omega arith in z) ∙ ap one_if (sym (transmitted_held su on p refl)));
           ordered = ordered';
           deposited = refl;
-          msg3 = λ n h. let ne : (8 ≡ k → ⊥) = λ e. absurd (omega arith) in part-other m k f.packet whole (omega arith) fresh.short 8 n h ne;
+          msg3 = λ n h. let ne : (8 ≡ k → ⊥) = λ e. absurd (omega arith) in part_other m k f.packet whole (omega arith) fresh.short 8 n h ne;
           grown = record {
             more = one_if on;
             new = 1;
@@ -414,7 +414,7 @@ module _ (su : Setup) (st : State) (m : List ℕ) (gap : Bool) (g : Option Grant
             count = counted_after on y;
             all = let b = sent_length on y [] in let c = total_same k (with_end t) (λ s. length s.sendings) (λ s. refl) l.stays in omega arith;
             begun = refl;
-            stays = let b = length-amended k (with_end t) l.stays in omega arith;
+            stays = let b = length_amended k (with_end t) l.stays in omega arith;
             once = λ c. let b = sent_passing c on up k t y [] in let e = total_same k (with_end t) (λ s. passing c s.sendings) (λ s. refl) l.stays in omega arith;
           };
         })
@@ -461,13 +461,13 @@ module _ (su : Setup) (st : State) (m : List ℕ) (gap : Bool) (g : Option Grant
         c' : Scene
         c' = scene_with st k q m' r' (st.clock + 1) (met_with (meets k st.clock g gap false ∷ es) met)
 
-        log-after : recorded_all (meets k t g gap false ∷ es) l ≡ with_stays l₁ (s' ∷ amend k (with_end t) l.stays)
-        log-after =
+        log_after : recorded_all (meets k t g gap false ∷ es) l ≡ with_stays l₁ (s' ∷ amend k (with_end t) l.stays)
+        log_after =
             ap (λ ss. recorded_all (tail_events on y up k t) (with_stays l₁ (new_stay l₁ b ∷ ss))) (amend_twice k (with_met x) (replaced t) (λ s. refl) (λ s. refl) l.stays)
             ∙ tail_begun l₁ k t b on y up (amend k (with_end t) l.stays) refl refl (goings_over k (with_end t) (λ s. refl) l.stays)
 
         ch : Change k x (scene st m met) c'
-        ch = process_change st m m' met (met_with (meets k t g gap false ∷ es) met) k q r' (st.clock + 1) x (omega arith) refl (λ j. tail_surrounded j on y up k t (cond (eqb k j) (x ∷ met j) (met j))) (λ j n h ne. part-other m k f.packet whole (omega arith) fresh.short j n h ne) (fewer_after su.kind t g st.repetition k paced)
+        ch = process_change st m m' met (met_with (meets k t g gap false ∷ es) met) k q r' (st.clock + 1) x (omega arith) refl (λ j. tail_surrounded j on y up k t (cond (eqb k j) (x ∷ met j) (met j))) (λ j n h ne. part_other m k f.packet whole (omega arith) fresh.short j n h ne) (fewer_after su.kind t g st.repetition k paced)
 
         ordered' : AllOrdered (t + 1) c'.met
         ordered' = change_ordered k x (scene st m met) c' ch ordered
@@ -485,15 +485,15 @@ module _ (su : Setup) (st : State) (m : List ℕ) (gap : Bool) (g : Option Grant
             here : life_of su (c'.met s.beginning.process) s ≡ record { process = ready; sendings = s.sendings; ended = Some t }
             here = lives false c' ch s e h ∙ alone s
 
-        new-goes : (u : Bool) → goes_on k (begun_stay l₁ b on y u t) ≡ not u
-        new-goes true = ap (λ z. z && false) (eq-eqb k k refl)
-        new-goes false = ap (λ z. z && true) (eq-eqb k k refl)
+        new_goes : (u : Bool) → goes_on k (begun_stay l₁ b on y u t) ≡ not u
+        new_goes true = ap (λ z. z && false) (eq-eqb k k refl)
+        new_goes false = ap (λ z. z && true) (eq-eqb k k refl)
 
         elsewhere : (j : ℕ) → j ≢ k → goes_on j s' ≡ false
         elsewhere j ne = ap (λ z. z && not (is_some s'.ended)) (ne_eqb k j (λ e. ne (sym e)))
 
         stored : part m' k (length f.packet) ≡ f.packet
-        stored = part-written m k f.packet whole (omega arith) fresh.short
+        stored = part_written m k f.packet whole (omega arith) fresh.short
 
         alive : life_of su (c'.met k) s' ≡ tried su b t gap false p []
         alive = ap (life su b gap) (none_after t (c'.met k) (ordered' k lt))
@@ -507,15 +507,15 @@ module _ (su : Setup) (st : State) (m : List ℕ) (gap : Bool) (g : Option Grant
             let c = subst (λ h. Paced su.kind t h st.repetition k → 1 + left (t + 1) (repetition_by su.kind t h st.repetition) k ≤ w.repetitions) (sym granted) (room_new su.kind t w st.repetition k z) paced in
             omega arith
 
-        new-good : Good su c' s'
-        new-good = record {
+        new_good : Good su c' s'
+        new_good = record {
           born = record { below = lt; some = fresh.some; short = fresh.short; deposit = fresh.deposit };
           began = omega arith;
           sent = ap (λ z. sent_if on z []) carries ∙ sym (ap (λ z. z.sendings) alive);
           over = sym (ap (λ z. z.ended) alive);
           room = λ z. let a = room z in omega arith;
           going = λ u. record {
-            state = own-process st.processes k q eight lt ∙ sym (ap (λ z. z.process) alive);
+            state = own_process st.processes k q eight lt ∙ sym (ap (λ z. z.process) alive);
             stored = stored;
             room = room;
           };
@@ -532,13 +532,13 @@ module _ (su : Setup) (st : State) (m : List ℕ) (gap : Bool) (g : Option Grant
       same = referred_same g (process_at st.processes k)
 
       go : (v : Decision) → decided su g ready ≡ v → Decides g ready v → let d = done_by su st m gap g k a (course su v msg3 m offers ready) in Followed su st m l met d (recorded_all d.events l)
-      go (decision.Rest o) e h = follow-rests a o (λ s. ap (λ v. carried_out su s.beginning st.clock gap (is_starved o) v ready s.sendings) e)
-      go (decision.Adaptive y) e h = follow-again a (adapted su y ready) false paced (sym (ap is_some same.buffer) ∙ h) same.buffer (λ s. ap (λ v. carried_out su s.beginning st.clock gap false v ready s.sendings) e)
-      go decision.NonAdaptive e h = follow-again a (repeated su ready) (is_ack ready.harq_feedback) paced (sym (ap is_some same.buffer) ∙ h) same.buffer (λ s. ap (λ v. carried_out su s.beginning st.clock gap false v ready s.sendings) e)
+      go (decision.Rest o) e h = follow_rests a o (λ s. ap (λ v. carried_out su s.beginning st.clock gap (is_starved o) v ready s.sendings) e)
+      go (decision.Adaptive y) e h = follow_again a (adapted su y ready) false paced (sym (ap is_some same.buffer) ∙ h) same.buffer (λ s. ap (λ v. carried_out su s.beginning st.clock gap false v ready s.sendings) e)
+      go decision.NonAdaptive e h = follow_again a (repeated su ready) (is_ack ready.harq_feedback) paced (sym (ap is_some same.buffer) ∙ h) same.buffer (λ s. ap (λ v. carried_out su s.beginning st.clock gap false v ready s.sendings) e)
       go (decision.New y) e h = obtains (obtained y msg3 m offers) refl
         where
           obtains : (o : Option Fresh) → obtained y msg3 m offers ≡ o → let d = done_by su st m gap g k a (begun su y ready o) in Followed su st m l met d (recorded_all d.events l)
-          obtains None q = follow-rests a NoPacket (λ s. ap (λ v. carried_out su s.beginning st.clock gap true v ready s.sendings) e)
+          obtains None q = follow_rests a NoPacket (λ s. ap (λ v. carried_out su s.beginning st.clock gap true v ready s.sendings) e)
           obtains (Some f) q =
               subst (λ p. let d = done_by su st m gap g k a (begins y f p) in Followed su st m l met d (recorded_all d.events l)) (sym (renewed_first su g y (length f.packet) f.from_msg3 (process_at st.processes k) h.0 h.1 (quiet y h.0)))
-              (follow-begins y f h.0 paced whole (fresh y f q) a (λ s. ap (λ v. carried_out su s.beginning st.clock gap false v ready s.sendings) e))
+              (follow_begins y f h.0 paced whole (fresh y f q) a (λ s. ap (λ v. carried_out su s.beginning st.clock gap false v ready s.sendings) e))

@@ -67,15 +67,15 @@ life su b gap (m ∷ ms) = let l = life su b gap ms in unless_over l.ended l (li
 
 module _ (su : Setup) (b : Beginning) (gap : Bool) where
   -- once over, a stay meets nothing
-  pub life-over : (m : Met) (ms : List Met) → is_some (life su b gap ms).ended ≡ true → life su b gap (m ∷ ms) ≡ life su b gap ms
-  life-over m ms e = go (life su b gap ms).ended e
+  pub life_over : (m : Met) (ms : List Met) → is_some (life su b gap ms).ended ≡ true → life su b gap (m ∷ ms) ≡ life su b gap ms
+  life_over m ms e = go (life su b gap ms).ended e
     where
       go : (o : Option ℕ) → is_some o ≡ true → unless_over o (life su b gap ms) (lived su b m (life su b gap ms)) ≡ life su b gap ms
       go None e = absurd (both_ways false refl e)
       go (Some t) e = refl
 
-  pub life-on : (m : Met) (ms : List Met) → (life su b gap ms).ended ≡ None → life su b gap (m ∷ ms) ≡ lived su b m (life su b gap ms)
-  life-on m ms e = ap (λ o. unless_over o (life su b gap ms) (lived su b m (life su b gap ms))) e
+  pub life_on : (m : Met) (ms : List Met) → (life su b gap ms).ended ≡ None → life su b gap (m ∷ ms) ≡ lived su b m (life su b gap ms)
+  life_on m ms e = ap (λ o. unless_over o (life su b gap ms) (lived su b m (life su b gap ms))) e
 
   -- what holds at first and is kept while it goes on holds throughout
   pub throughout : (P : Life → Type 0) → P (life su b gap []) → ((m : Met) (l : Life) → l.ended ≡ None → P l → P (lived su b m l)) → (ms : List Met) → P (life su b gap ms)
@@ -134,8 +134,8 @@ pub record Fit (b : Beginning) (l : Life) : Type 0 where
   pub mark : l.process.from_msg3 ≡ b.from_msg3
 
 module _ (su : Setup) (b : Beginning) where
-  tried-fit : (t : ℕ) (gap acked : Bool) (p : Process) (xs : List Sending) → p.buffer ≡ Some (length b.packet) → p.from_msg3 ≡ b.from_msg3 → Fit b (tried su b t gap acked p xs)
-  tried-fit t gap acked p xs e m = record { full = λ z. h.buffer ∙ go (gives_up su p) z; mark = h.from_msg3 ∙ m }
+  tried_fit : (t : ℕ) (gap acked : Bool) (p : Process) (xs : List Sending) → p.buffer ≡ Some (length b.packet) → p.from_msg3 ≡ b.from_msg3 → Fit b (tried su b t gap acked p xs)
+  tried_fit t gap acked p xs e m = record { full = λ z. h.buffer ∙ go (gives_up su p) z; mark = h.from_msg3 ∙ m }
     where
       h : Tried p (transmitted su (on_air acked gap p) p) (gives_up su p)
       h = transmitted_facts su (on_air acked gap p) p
@@ -144,20 +144,20 @@ module _ (su : Setup) (b : Beginning) where
       go true z = absurd (none_some (sym z))
       go false z = e
 
-  carried-fit : (t : ℕ) (gap starved : Bool) (d : Decision) (p : Process) (xs : List Sending) → p.buffer ≡ Some (length b.packet) → p.from_msg3 ≡ b.from_msg3 → Fit b (carried_out su b t gap starved d p xs)
-  carried-fit t gap starved (decision.Rest o) p xs e m = record { full = λ z. e; mark = m }
-  carried-fit t gap starved (decision.New g) p xs e m = record { full = λ z. e; mark = m }
-  carried-fit t gap starved (decision.Adaptive g) p xs e m = tried-fit t gap false (adapted su g p) xs e m
-  carried-fit t gap starved decision.NonAdaptive p xs e m = tried-fit t gap (is_ack p.harq_feedback) (repeated su p) xs e m
+  carried_fit : (t : ℕ) (gap starved : Bool) (d : Decision) (p : Process) (xs : List Sending) → p.buffer ≡ Some (length b.packet) → p.from_msg3 ≡ b.from_msg3 → Fit b (carried_out su b t gap starved d p xs)
+  carried_fit t gap starved (decision.Rest o) p xs e m = record { full = λ z. e; mark = m }
+  carried_fit t gap starved (decision.New g) p xs e m = record { full = λ z. e; mark = m }
+  carried_fit t gap starved (decision.Adaptive g) p xs e m = tried_fit t gap false (adapted su g p) xs e m
+  carried_fit t gap starved decision.NonAdaptive p xs e m = tried_fit t gap (is_ack p.harq_feedback) (repeated su p) xs e m
 
-  lived-fit : (m : Met) (l : Life) → l.ended ≡ None → Fit b l → Fit b (lived su b m l)
-  lived-fit (answer_met t a gap) l e f = let h = hears_same gap a l.process in record { full = λ z. h.buffer ∙ f.full e; mark = h.from_msg3 ∙ f.mark }
-  lived-fit (subframe_met t g gap starved) l e f =
+  lived_fit : (m : Met) (l : Life) → l.ended ≡ None → Fit b l → Fit b (lived su b m l)
+  lived_fit (answer_met t a gap) l e f = let h = hears_same gap a l.process in record { full = λ z. h.buffer ∙ f.full e; mark = h.from_msg3 ∙ f.mark }
+  lived_fit (subframe_met t g gap starved) l e f =
       let h = referred_same g l.process in
-      carried-fit t gap starved (decided su g (referred g l.process)) (referred g l.process) l.sendings (h.buffer ∙ f.full e) (h.from_msg3 ∙ f.mark)
+      carried_fit t gap starved (decided su g (referred g l.process)) (referred g l.process) l.sendings (h.buffer ∙ f.full e) (h.from_msg3 ∙ f.mark)
 
-  pub life-fit : (gap : Bool) (ms : List Met) → Fit b (life su b gap ms)
-  life-fit gap ms = throughout su b gap (Fit b) (tried-fit b.first gap false (first_process su b) [] refl refl) lived-fit ms
+  pub life_fit : (gap : Bool) (ms : List Met) → Fit b (life su b gap ms)
+  life_fit gap ms = throughout su b gap (Fit b) (tried_fit b.first gap false (first_process su b) [] refl refl) lived_fit ms
 
 -- no more sendings than the maximum
 pub record Limited (su : Setup) (b : Beginning) (l : Life) : Type 0 where
@@ -170,14 +170,14 @@ sent_if_length true x xs = omega arith
 sent_if_length false x xs = omega arith
 
 module _ (su : Setup) (b : Beginning) (sync : synchronous su.kind ≡ true) (some-tries : 1 ≤ maximum su b.from_msg3) where
-  counted-sync : (k : CellKind) (n : ℕ) → synchronous k ≡ true → counted k n ≡ n + 1
-  counted-sync Plain n e = refl
-  counted-sync Bundled n e = refl
-  counted-sync Asynchronous n e = absurd (both_ways false refl e)
+  counted_sync : (k : CellKind) (n : ℕ) → synchronous k ≡ true → counted k n ≡ n + 1
+  counted_sync Plain n e = refl
+  counted_sync Bundled n e = refl
+  counted_sync Asynchronous n e = absurd (both_ways false refl e)
 
-  tried-limited : (t : ℕ) (gap acked : Bool) (p : Process) (xs : List Sending) → p.buffer ≡ Some (length b.packet) → p.from_msg3 ≡ b.from_msg3 → length xs ≤ p.current_tx_nb → p.current_tx_nb + 1 ≤ maximum su b.from_msg3
+  tried_limited : (t : ℕ) (gap acked : Bool) (p : Process) (xs : List Sending) → p.buffer ≡ Some (length b.packet) → p.from_msg3 ≡ b.from_msg3 → length xs ≤ p.current_tx_nb → p.current_tx_nb + 1 ≤ maximum su b.from_msg3
       → Limited su b (tried su b t gap acked p xs)
-  tried-limited t gap acked p xs full mark few top = record { fit = tried-fit su b t gap acked p xs full mark; going = going (gives_up su p) refl; all = let h = sent_if_length (on_air acked gap p) (sent_by t b p) xs in omega arith }
+  tried_limited t gap acked p xs full mark few top = record { fit = tried_fit su b t gap acked p xs full mark; going = going (gives_up su p) refl; all = let h = sent_if_length (on_air acked gap p) (sent_by t b p) xs in omega arith }
     where
       going : (up : Bool) → gives_up su p ≡ up → end_if up t ≡ None → (length (sent_if (on_air acked gap p) (sent_by t b p) xs) ≤ (transmitted su (on_air acked gap p) p).current_tx_nb + 1) × ((transmitted su (on_air acked gap p) p).current_tx_nb + 1 < maximum su b.from_msg3)
       going true e z = absurd (none_some (sym z))
@@ -189,50 +189,50 @@ module _ (su : Setup) (b : Beginning) (sync : synchronous su.kind ≡ true) (som
           let ne = eqb-false (p.current_tx_nb + 1) (maximum su p.from_msg3) off in
           (omega arith, omega (arith, ne))
 
-  carried-limited : (t : ℕ) (gap starved : Bool) (d : Decision) (p : Process) (xs : List Sending) → p.buffer ≡ Some (length b.packet) → p.from_msg3 ≡ b.from_msg3 → length xs ≤ p.current_tx_nb + 1 → p.current_tx_nb + 1 < maximum su b.from_msg3
+  carried_limited : (t : ℕ) (gap starved : Bool) (d : Decision) (p : Process) (xs : List Sending) → p.buffer ≡ Some (length b.packet) → p.from_msg3 ≡ b.from_msg3 → length xs ≤ p.current_tx_nb + 1 → p.current_tx_nb + 1 < maximum su b.from_msg3
       → Limited su b (carried_out su b t gap starved d p xs)
-  carried-limited t gap starved (decision.Rest o) p xs e m few top = record { fit = carried-fit su b t gap starved (decision.Rest o) p xs e m; going = λ z. (few, top); all = omega arith }
-  carried-limited t gap starved (decision.New g) p xs e m few top = record { fit = carried-fit su b t gap starved (decision.New g) p xs e m; going = λ z. (few, top); all = omega arith }
-  carried-limited t gap starved (decision.Adaptive g) p xs e m few top =
-      let k = counted-sync su.kind p.current_tx_nb sync in
-      tried-limited t gap false (adapted su g p) xs e m (omega arith) (omega arith)
-  carried-limited t gap starved decision.NonAdaptive p xs e m few top =
-      let k = counted-sync su.kind p.current_tx_nb sync in
-      tried-limited t gap (is_ack p.harq_feedback) (repeated su p) xs e m (omega arith) (omega arith)
+  carried_limited t gap starved (decision.Rest o) p xs e m few top = record { fit = carried_fit su b t gap starved (decision.Rest o) p xs e m; going = λ z. (few, top); all = omega arith }
+  carried_limited t gap starved (decision.New g) p xs e m few top = record { fit = carried_fit su b t gap starved (decision.New g) p xs e m; going = λ z. (few, top); all = omega arith }
+  carried_limited t gap starved (decision.Adaptive g) p xs e m few top =
+      let k = counted_sync su.kind p.current_tx_nb sync in
+      tried_limited t gap false (adapted su g p) xs e m (omega arith) (omega arith)
+  carried_limited t gap starved decision.NonAdaptive p xs e m few top =
+      let k = counted_sync su.kind p.current_tx_nb sync in
+      tried_limited t gap (is_ack p.harq_feedback) (repeated su p) xs e m (omega arith) (omega arith)
 
-  lived-limited : (m : Met) (l : Life) → l.ended ≡ None → Limited su b l → Limited su b (lived su b m l)
-  lived-limited (answer_met t a gap) l e h =
+  lived_limited : (m : Met) (l : Life) → l.ended ≡ None → Limited su b l → Limited su b (lived su b m l)
+  lived_limited (answer_met t a gap) l e h =
       let s = hears_same gap a l.process in
       let k = s.count in
       let i = h.going e in
-      record { fit = lived-fit su b (answer_met t a gap) l e h.fit; going = λ z. (omega arith, omega arith); all = h.all }
-  lived-limited (subframe_met t g gap starved) l e h =
+      record { fit = lived_fit su b (answer_met t a gap) l e h.fit; going = λ z. (omega arith, omega arith); all = h.all }
+  lived_limited (subframe_met t g gap starved) l e h =
       let s = referred_same g l.process in
       let k = s.count in
       let i = h.going e in
-      carried-limited t gap starved (decided su g (referred g l.process)) (referred g l.process) l.sendings (s.buffer ∙ h.fit.full e) (s.from_msg3 ∙ h.fit.mark) (omega arith) (omega arith)
+      carried_limited t gap starved (decided su g (referred g l.process)) (referred g l.process) l.sendings (s.buffer ∙ h.fit.full e) (s.from_msg3 ∙ h.fit.mark) (omega arith) (omega arith)
 
-  pub life-limited : (gap : Bool) (ms : List Met) → Limited su b (life su b gap ms)
-  life-limited gap ms = throughout su b gap (Limited su b) (tried-limited b.first gap false (first_process su b) [] refl refl (omega arith) some-tries) lived-limited ms
+  pub life_limited : (gap : Bool) (ms : List Met) → Limited su b (life su b gap ms)
+  life_limited gap ms = throughout su b gap (Limited su b) (tried_limited b.first gap false (first_process su b) [] refl refl (omega arith) some-tries) lived_limited ms
 
 -- each sending is of the packet
 module _ (su : Setup) (b : Beginning) where
-  sent-carries : (on : Bool) (t : ℕ) (p : Process) (xs : List Sending) → All (Carries b) xs → All (Carries b) (sent_if on (sent_by t b p) xs)
-  sent-carries true t p xs h = ((refl, refl), h)
-  sent-carries false t p xs h = h
+  sent_carries : (on : Bool) (t : ℕ) (p : Process) (xs : List Sending) → All (Carries b) xs → All (Carries b) (sent_if on (sent_by t b p) xs)
+  sent_carries true t p xs h = ((refl, refl), h)
+  sent_carries false t p xs h = h
 
-  carried-carries : (t : ℕ) (gap starved : Bool) (d : Decision) (p : Process) (xs : List Sending) → All (Carries b) xs → All (Carries b) (carried_out su b t gap starved d p xs).sendings
-  carried-carries t gap starved (decision.Rest o) p xs h = h
-  carried-carries t gap starved (decision.New g) p xs h = h
-  carried-carries t gap starved (decision.Adaptive g) p xs h = sent-carries (on_air false gap (adapted su g p)) t (adapted su g p) xs h
-  carried-carries t gap starved decision.NonAdaptive p xs h = sent-carries (on_air (is_ack p.harq_feedback) gap (repeated su p)) t (repeated su p) xs h
+  carried_carries : (t : ℕ) (gap starved : Bool) (d : Decision) (p : Process) (xs : List Sending) → All (Carries b) xs → All (Carries b) (carried_out su b t gap starved d p xs).sendings
+  carried_carries t gap starved (decision.Rest o) p xs h = h
+  carried_carries t gap starved (decision.New g) p xs h = h
+  carried_carries t gap starved (decision.Adaptive g) p xs h = sent_carries (on_air false gap (adapted su g p)) t (adapted su g p) xs h
+  carried_carries t gap starved decision.NonAdaptive p xs h = sent_carries (on_air (is_ack p.harq_feedback) gap (repeated su p)) t (repeated su p) xs h
 
-  lived-carries : (m : Met) (l : Life) → l.ended ≡ None → All (Carries b) l.sendings → All (Carries b) (lived su b m l).sendings
-  lived-carries (answer_met t a gap) l e h = h
-  lived-carries (subframe_met t g gap starved) l e h = carried-carries t gap starved (decided su g (referred g l.process)) (referred g l.process) l.sendings h
+  lived_carries : (m : Met) (l : Life) → l.ended ≡ None → All (Carries b) l.sendings → All (Carries b) (lived su b m l).sendings
+  lived_carries (answer_met t a gap) l e h = h
+  lived_carries (subframe_met t g gap starved) l e h = carried_carries t gap starved (decided su g (referred g l.process)) (referred g l.process) l.sendings h
 
-  pub life-carries : (gap : Bool) (ms : List Met) → All (Carries b) (life su b gap ms).sendings
-  life-carries gap ms = throughout su b gap (λ l. All (Carries b) l.sendings) (sent-carries (on_air false gap (first_process su b)) b.first (first_process su b) [] tt) lived-carries ms
+  pub life_carries : (gap : Bool) (ms : List Met) → All (Carries b) (life su b gap ms).sendings
+  life_carries gap ms = throughout su b gap (λ l. All (Carries b) l.sendings) (sent_carries (on_air false gap (first_process su b)) b.first (first_process su b) [] tt) lived_carries ms
 
 -- What was met stands in the order of the subframes, the latest first, all below t.
 abbrev pub Ordered : ℕ → List Met → Type 0
@@ -270,34 +270,34 @@ pub record Agrees (t : ℕ) (l l' : Life) : Type 0 where
   pub over : over_below t l.ended ≡ over_below t l'.ended
 
 module _ (su : Setup) (b : Beginning) (t : ℕ) where
-  sent-late : (on : Bool) (u : ℕ) (p : Process) (xs : List Sending) → t ≤ u → sent_below t (sent_if on (sent_by u b p) xs) ≡ sent_below t xs
-  sent-late true u p xs le = ap (λ x. cond x (sent_by u b p ∷ sent_below t xs) (sent_below t xs)) (le-ltb u t le)
-  sent-late false u p xs le = refl
+  sent_late : (on : Bool) (u : ℕ) (p : Process) (xs : List Sending) → t ≤ u → sent_below t (sent_if on (sent_by u b p) xs) ≡ sent_below t xs
+  sent_late true u p xs le = ap (λ x. cond x (sent_by u b p ∷ sent_below t xs) (sent_below t xs)) (le-ltb u t le)
+  sent_late false u p xs le = refl
 
-  over-late : (up : Bool) (u : ℕ) → t ≤ u → over_below t (end_if up u) ≡ false
-  over-late true u le = le-ltb u t le
-  over-late false u le = refl
+  over_late : (up : Bool) (u : ℕ) → t ≤ u → over_below t (end_if up u) ≡ false
+  over_late true u le = le-ltb u t le
+  over_late false u le = refl
 
   -- what happens from t on does not count below t
-  carried-late : (u : ℕ) (gap starved : Bool) (d : Decision) (p : Process) (l : Life) → t ≤ u → l.ended ≡ None → Agrees t (carried_out su b u gap starved d p l.sendings) l
-  carried-late u gap starved (decision.Rest o) p l le e = record { sent = refl; over = sym (ap (over_below t) e) }
-  carried-late u gap starved (decision.New g) p l le e = record { sent = refl; over = over-late (not starved) u le ∙ sym (ap (over_below t) e) }
-  carried-late u gap starved (decision.Adaptive g) p l le e =
-      record { sent = sent-late (on_air false gap (adapted su g p)) u (adapted su g p) l.sendings le; over = over-late (gives_up su (adapted su g p)) u le ∙ sym (ap (over_below t) e) }
-  carried-late u gap starved decision.NonAdaptive p l le e =
-      record { sent = sent-late (on_air (is_ack p.harq_feedback) gap (repeated su p)) u (repeated su p) l.sendings le; over = over-late (gives_up su (repeated su p)) u le ∙ sym (ap (over_below t) e) }
+  carried_late : (u : ℕ) (gap starved : Bool) (d : Decision) (p : Process) (l : Life) → t ≤ u → l.ended ≡ None → Agrees t (carried_out su b u gap starved d p l.sendings) l
+  carried_late u gap starved (decision.Rest o) p l le e = record { sent = refl; over = sym (ap (over_below t) e) }
+  carried_late u gap starved (decision.New g) p l le e = record { sent = refl; over = over_late (not starved) u le ∙ sym (ap (over_below t) e) }
+  carried_late u gap starved (decision.Adaptive g) p l le e =
+      record { sent = sent_late (on_air false gap (adapted su g p)) u (adapted su g p) l.sendings le; over = over_late (gives_up su (adapted su g p)) u le ∙ sym (ap (over_below t) e) }
+  carried_late u gap starved decision.NonAdaptive p l le e =
+      record { sent = sent_late (on_air (is_ack p.harq_feedback) gap (repeated su p)) u (repeated su p) l.sendings le; over = over_late (gives_up su (repeated su p)) u le ∙ sym (ap (over_below t) e) }
 
-  lived-late : (m : Met) (l : Life) → t ≤ subframe_of m → l.ended ≡ None → Agrees t (lived su b m l) l
-  lived-late (answer_met u a gap) l le e = record { sent = refl; over = sym (ap (over_below t) e) }
-  lived-late (subframe_met u g gap starved) l le e = carried-late u gap starved (decided su g (referred g l.process)) (referred g l.process) l le e
+  lived_late : (m : Met) (l : Life) → t ≤ subframe_of m → l.ended ≡ None → Agrees t (lived su b m l) l
+  lived_late (answer_met u a gap) l le e = record { sent = refl; over = sym (ap (over_below t) e) }
+  lived_late (subframe_met u g gap starved) l le e = carried_late u gap starved (decided su g (referred g l.process)) (referred g l.process) l le e
 
-  pub life-below : (gap : Bool) (c : ℕ) (ms : List Met) → Ordered c ms → Agrees t (life su b gap ms) (life su b gap (met_below t ms))
-  life-below gap c [] h = record { sent = refl; over = refl }
-  life-below gap c (m ∷ ms) h = go (ltb (subframe_of m) t) refl (life-below gap (subframe_of m + 1) ms h.1)
+  pub life_below : (gap : Bool) (c : ℕ) (ms : List Met) → Ordered c ms → Agrees t (life su b gap ms) (life su b gap (met_below t ms))
+  life_below gap c [] h = record { sent = refl; over = refl }
+  life_below gap c (m ∷ ms) h = go (ltb (subframe_of m) t) refl (life_below gap (subframe_of m + 1) ms h.1)
     where
       once_more : t ≤ subframe_of m → (o : Option ℕ) → (life su b gap ms).ended ≡ o → Agrees t (life su b gap ms) (life su b gap (met_below t ms)) → Agrees t (unless_over o (life su b gap ms) (lived su b m (life su b gap ms))) (life su b gap (met_below t ms))
       once_more le (Some u) e ih = ih
-      once_more le None e ih = let a = lived-late m (life su b gap ms) le e in record { sent = a.sent ∙ ih.sent; over = a.over ∙ ih.over }
+      once_more le None e ih = let a = lived_late m (life su b gap ms) le e in record { sent = a.sent ∙ ih.sent; over = a.over ∙ ih.over }
 
       go : (x : Bool) → ltb (subframe_of m) t ≡ x → Agrees t (life su b gap ms) (life su b gap (met_below t ms)) → Agrees t (life su b gap (m ∷ ms)) (life su b gap (cond x (m ∷ met_below t ms) (met_below t ms)))
       go true e ih =

@@ -11,13 +11,13 @@ use Rattle.rules.specs.Subframe.{Event, one_if}
 use Rattle.runs.specs.Runs.{World, Call, step, world_after, events_of, Past, set_up_world, world_now, happened, Accepted, past_with}
 use Rattle.runs.specs.Stays.{Met, Stay, Log, recorded_all, empty_log, surroundings, met_after, sent_below, over_below, passing_of_run, passing_of_stays}
 use Rattle.runs.specs.Promise.{stays_of, Counted, Carries, Kept, surroundings_between, Independent, AllKept, Promise, KeepsPromise}
-use Rattle.runs.proofs.Life.{Life, life, life-limited, life-carries, ordered_after, Agrees, life-below}
+use Rattle.runs.proofs.Life.{Life, life, life_limited, life_carries, ordered_after, Agrees, life_below}
 use Rattle.runs.proofs.Exactly.{exact_of}
 use Rattle.runs.proofs.Runs.{world_with}
 use Rattle.runs.proofs.Questions.{Ready, ready}
 use Rattle.runs.proofs.Tied.{Scene, scene, life_of, Good}
 use Rattle.runs.proofs.Follow.{met_with}
-use Rattle.runs.proofs.Sound.{Sound, Once, recorded_append, met_append, passing_append, step-sound}
+use Rattle.runs.proofs.Sound.{Sound, Once, recorded_append, met_append, passing_append, step_sound}
 
 run_sound : (su : Setup) (n : ℕ) → Ready su → (cs : List Call) (w : World) (l : Log) (met : ℕ → List Met) → Sound su n w l met
     → Sound su n (world_after su w cs) (recorded_all (events_of su w cs) l) (met_with (events_of su w cs) met) × Once l (events_of su w cs)
@@ -26,7 +26,7 @@ run_sound su n rd (c ∷ cs) w l met h =
     let w' : World = (step su w c).world in
     let es : List Event = (step su w c).events in
     let fs : List Event = events_of su w' cs in
-    let one = step-sound su n w l met rd h c in
+    let one = step_sound su n w l met rd h c in
     let rest = run_sound su n rd cs w' (recorded_all es l) (met_with es met) one.0 in (
       subst (λ l'. Sound su n (world_after su w' cs) l' (met_with (es ++ fs) met)) (sym (recorded_append es fs l))
           (subst (Sound su n (world_after su w' cs) (recorded_all fs (recorded_all es l))) (sym (met_append es fs met)) rest.0),
@@ -73,16 +73,16 @@ module _ (p : Past) (accepted : Accepted p.setup) where
       su : Setup
       su = p.setup
 
-      maximum-by : (b : Bool) → maximum su b ≡ cond b su.max_harq_msg3_tx su.max_harq_tx
-      maximum-by true = refl
-      maximum-by false = refl
+      maximum_by : (b : Bool) → maximum su b ≡ cond b su.max_harq_msg3_tx su.max_harq_tx
+      maximum_by true = refl
+      maximum_by false = refl
 
       each : (s : Stay) → Good su now s → Kept su s
       each s g = record {
         packet_length = (g.born.some, g.born.short);
-        carried = subst (All (Carries s.beginning)) (sym g.sent) (life-carries su s.beginning s.gap ms);
+        carried = subst (All (Carries s.beginning)) (sym g.sent) (life_carries su s.beginning s.gap ms);
         from_deposit = g.born.deposit;
-        synchronous_limit = λ z. subst (λ n. length s.sendings ≤ n) (maximum-by s.beginning.from_msg3) (subst (λ xs. length xs ≤ maximum su s.beginning.from_msg3) (sym g.sent) (life-limited su s.beginning z ((ready su accepted).tries s.beginning.from_msg3) s.gap ms).all);
+        synchronous_limit = λ z. subst (λ n. length s.sendings ≤ n) (maximum_by s.beginning.from_msg3) (subst (λ xs. length xs ≤ maximum su s.beginning.from_msg3) (sym g.sent) (life_limited su s.beginning z ((ready su accepted).tries s.beginning.from_msg3) s.gap ms).all);
         asynchronous_limit = g.room;
       }
         where
@@ -101,7 +101,7 @@ module _ (p : Past) (accepted : Accepted p.setup) where
       u = s.beginning.first
 
       h : Agrees t (life_of p.setup (surroundings k (happened p)) s) (life p.setup s.beginning s.gap (surroundings_between p k u t))
-      h = life-below p.setup s.beginning t s.gap (world_now p).state.clock (met_after u (surroundings k (happened p))) (ordered_after (world_now p).state.clock u (surroundings k (happened p)) (sound.0.ordered k g.born.below))
+      h = life_below p.setup s.beginning t s.gap (world_now p).state.clock (met_after u (surroundings k (happened p))) (ordered_after (world_now p).state.clock u (surroundings k (happened p)) (sound.0.ordered k g.born.below))
 
 independent : (p : Past) (a : Accepted p.setup) (p' : Past) (a' : Accepted p'.setup) → p'.setup ≡ p.setup → (s s' : Stay) → Good p.setup (now p a) s → Good p'.setup (now p' a') s' → Independent p p' s s'
 independent p a p' a' same s s' g g' began gap t met = record {
@@ -109,13 +109,13 @@ independent p a p' a' same s s' g g' began gap t met = record {
   over = (lives p a s g t).1 ∙ ap (λ l. over_below t l.ended) equal ∙ sym (lives p' a' s' g' t).1;
 }
   where
-    life-by : Setup → Bool → List Met → Life
-    life-by su x ms = life su s.beginning x ms
+    life_by : Setup → Bool → List Met → Life
+    life_by su x ms = life su s.beginning x ms
 
     equal : life p.setup s.beginning s.gap (surroundings_between p s.beginning.process s.beginning.first t) ≡ life p'.setup s'.beginning s'.gap (surroundings_between p' s'.beginning.process s'.beginning.first t)
     equal =
-        ap (life-by p.setup s.gap) met
-        ∙ ap₂ (λ su x. life-by su x (surroundings_between p' s.beginning.process s.beginning.first t)) (sym same) gap
+        ap (life_by p.setup s.gap) met
+        ∙ ap₂ (λ su x. life_by su x (surroundings_between p' s.beginning.process s.beginning.first t)) (sym same) gap
         ∙ ap (λ b. life p'.setup b s'.gap (surroundings_between p' b.process b.first t)) began
 
 -- the promise

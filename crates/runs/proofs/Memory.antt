@@ -16,25 +16,25 @@ behind xs ys a h =
     ap (λ n. drop n (xs ++ ys)) e ∙ drop-append-add xs ys (a - length xs)
 
 module _ (m : List ℕ) (k : ℕ) (b : List ℕ) (whole : length m ≡ 5805) (fits : k ≤ 8) (short : length b ≤ 645) where
-  head-length : length (take (645 * k) m) ≡ 645 * k
-  head-length = length-take-le (645 * k) m (omega arith)
+  head_length : length (take (645 * k) m) ≡ 645 * k
+  head_length = length-take-le (645 * k) m (omega arith)
 
-  pub part-written : part (written m k b) k (length b) ≡ b
-  part-written =
-      ap (take (length b)) (drop_at (take (645 * k) m) (b ++ drop (645 * k + length b) m) (645 * k) head-length)
+  pub part_written : part (written m k b) k (length b) ≡ b
+  part_written =
+      ap (take (length b)) (drop_at (take (645 * k) m) (b ++ drop (645 * k + length b) m) (645 * k) head_length)
       ∙ take_at b (drop (645 * k + length b) m) (length b) refl
 
-  below-k : (j n : ℕ) → n ≤ 645 → j < k → part (written m k b) j n ≡ part m j n
-  below-k j n h lt =
-      let within : 645 * j + n ≤ length (take (645 * k) m) = omega (arith, head-length) in
+  below_k : (j n : ℕ) → n ≤ 645 → j < k → part (written m k b) j n ≡ part m j n
+  below_k j n h lt =
+      let within : 645 * j + n ≤ length (take (645 * k) m) = omega (arith, head_length) in
       front (take (645 * k) m) (b ++ drop (645 * k + length b) m) (645 * j) n within
       ∙ sym (front (take (645 * k) m) (drop (645 * k) m) (645 * j) n within)
       ∙ ap (λ x. take n (drop (645 * j) x)) (take-append-drop (645 * k) m)
 
-  above-k : (j n : ℕ) → k < j → part (written m k b) j n ≡ part m j n
-  above-k j n lt =
+  above_k : (j n : ℕ) → k < j → part (written m k b) j n ≡ part m j n
+  above_k j n lt =
       let c : ℕ = 645 * k + length b in
-      let front_length : length (take (645 * k) m ++ b) ≡ c = length-append (take (645 * k) m) b ∙ ap (λ x. x + length b) head-length in
+      let front_length : length (take (645 * k) m ++ b) ≡ c = length-append (take (645 * k) m) b ∙ ap (λ x. x + length b) head_length in
       let past : length (take (645 * k) m ++ b) ≤ 645 * j = omega (arith, front_length) in
       let r : ℕ = 645 * j - length (take (645 * k) m ++ b) in
       let sum : c + r ≡ 645 * j = omega (arith, front_length) in
@@ -44,12 +44,12 @@ module _ (m : List ℕ) (k : ℕ) (b : List ℕ) (whole : length m ≡ 5805) (fi
       ∙ drop-drop r c m
       ∙ ap (λ x. drop x m) sum)
 
-  pub part-other : (j n : ℕ) → n ≤ 645 → j ≢ k → part (written m k b) j n ≡ part m j n
-  part-other j n h ne = go (order j)
+  pub part_other : (j n : ℕ) → n ≤ 645 → j ≢ k → part (written m k b) j n ≡ part m j n
+  part_other j n h ne = go (order j)
     where
       order : (i : ℕ) → (i < k) ⊎ (k ≤ i)
       order i = search arith
 
       go : (j < k) ⊎ (k ≤ j) → part (written m k b) j n ≡ part m j n
-      go (inl lt) = below-k j n h lt
-      go (inr ge) = above-k j n (omega arith)
+      go (inl lt) = below_k j n h lt
+      go (inr ge) = above_k j n (omega arith)

@@ -26,19 +26,19 @@ fitting_same n (Some b) h =
     ap (λ x. cond x (Some b) None) (and_from (eqb (length b) n) (within 1 645 n) (eq-eqb (length b) n f.2) (and_from (leb 1 n) (leb n 645) (le-leb 1 n f.0) (le-leb n 645 f.1)))
 
 module _ (su : Setup) (m : List ℕ) (offers offers' : ℕ → Option (List ℕ)) where
-  course-same : (d : Decision) (msg3 : Option ℕ) (p : Process) → ((n : ℕ) → asked d msg3 ≡ Some n → offers n ≡ offers' n) → course su d msg3 m offers p ≡ course su d msg3 m offers' p
-  course-same (decision.Rest o) msg3 p h = refl
-  course-same (decision.Adaptive g) msg3 p h = refl
-  course-same decision.NonAdaptive msg3 p h = refl
-  course-same (decision.New g) msg3 p h = ap (begun su g p) (go (msg3_taken g.reception msg3) h)
+  course_same : (d : Decision) (msg3 : Option ℕ) (p : Process) → ((n : ℕ) → asked d msg3 ≡ Some n → offers n ≡ offers' n) → course su d msg3 m offers p ≡ course su d msg3 m offers' p
+  course_same (decision.Rest o) msg3 p h = refl
+  course_same (decision.Adaptive g) msg3 p h = refl
+  course_same decision.NonAdaptive msg3 p h = refl
+  course_same (decision.New g) msg3 p h = ap (begun su g p) (go (msg3_taken g.reception msg3) h)
     where
       go : (o : Option ℕ) → ((n : ℕ) → asked_by o g.size ≡ Some n → offers n ≡ offers' n) → obtained_by o g.size m offers ≡ obtained_by o g.size m offers'
       go None h = ap offered (h g.size refl)
       go (Some n) h = refl
 
-  turn-same : (st : State) (gap : Bool) (g : Option GrantInForce) (o : Option ℕ) → ((n : ℕ) → (turn_done su st m gap offers g o).asked ≡ Some n → offers n ≡ offers' n) → turn_done su st m gap offers g o ≡ turn_done su st m gap offers' g o
-  turn-same st gap g None h = refl
-  turn-same st gap g (Some k) h = ap (done_by su st m gap g k (asked (decided su g p) st.msg3)) (course-same (decided su g p) st.msg3 p h)
+  turn_same : (st : State) (gap : Bool) (g : Option GrantInForce) (o : Option ℕ) → ((n : ℕ) → (turn_done su st m gap offers g o).asked ≡ Some n → offers n ≡ offers' n) → turn_done su st m gap offers g o ≡ turn_done su st m gap offers' g o
+  turn_same st gap g None h = refl
+  turn_same st gap g (Some k) h = ap (done_by su st m gap g k (asked (decided su g p) st.msg3)) (course_same (decided su g p) st.msg3 p h)
     where
       p : Process
       p = referred g (process_at st.processes k)
@@ -51,7 +51,7 @@ pub subframe_same : (su : Setup) (st : State) (m : List ℕ) (i : Given) (offers
     → subframe su st m i ≡ subframe su st m (with_offers i offers)
 subframe_same su st m i offers h =
     ap (λ d. unless_refused (questioned su st (length m) i.ready i.gap i.answer i.grant) (after_events (answer_events (answering su.kind st.clock) st.clock i.answer i.gap) d))
-    (turn-same su m i.offers offers s₂ i.gap g (process_of su.kind st.clock g st.repetition) h)
+    (turn_same su m i.offers offers s₂ i.gap g (process_of su.kind st.clock g st.repetition) h)
   where
     g : Option GrantInForce
     g = grant_in_force su st.clock st.configured i.grant

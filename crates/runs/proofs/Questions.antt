@@ -67,17 +67,17 @@ ready su e = record { tries = tries; plain = plain }
     tries true = within_low 1 8 su.max_harq_msg3_tx (and_parts (within 1 28 su.max_harq_tx) (within 1 8 su.max_harq_msg3_tx) a).1
     tries false = within_low 1 28 su.max_harq_tx (and_parts (within 1 28 su.max_harq_tx) (within 1 8 su.max_harq_msg3_tx) a).0
 
-    not-bundled : (k : CellKind) → is_plain k ≡ true → is_bundled k ≡ false
-    not-bundled Plain q = refl
-    not-bundled Bundled q = absurd (both_ways false refl q)
-    not-bundled Asynchronous q = refl
+    not_bundled : (k : CellKind) → is_plain k ≡ true → is_bundled k ≡ false
+    not_bundled Plain q = refl
+    not_bundled Bundled q = absurd (both_ways false refl q)
+    not_bundled Asynchronous q = refl
 
     plain : 0 < su.interval → is_bundled su.kind ≡ false
     plain h = go (or_cases (eqb su.interval 0) (within 1 640 su.interval && is_plain su.kind) b)
       where
         go : (eqb su.interval 0 ≡ true) ⊎ ((within 1 640 su.interval && is_plain su.kind) ≡ true) → is_bundled su.kind ≡ false
         go (inl q) = let z = eqb-true su.interval 0 q in absurd (omega arith)
-        go (inr q) = not-bundled su.kind (and_parts (within 1 640 su.interval) (is_plain su.kind) q).1
+        go (inr q) = not_bundled su.kind (and_parts (within 1 640 su.interval) (is_plain su.kind) q).1
 
 -- a grant over the air
 pub record Granted (su : Setup) (t : ℕ) (g : Grant) : Type 0 where
@@ -104,22 +104,22 @@ fields_pace Asynchronous g z e =
 kind_interval : (su : Setup) (g : Grant) → kind_allowed su g ≡ true → eqb g.kind 2 ≡ true → 0 < su.interval
 kind_interval su g e two = go (or_cases (eqb g.kind 0) _ e)
   where
-    is-two : g.kind ≡ 2
-    is-two = eqb-true g.kind 2 two
+    is_two : g.kind ≡ 2
+    is_two = eqb-true g.kind 2 two
 
-    not-it : (n : ℕ) → eqb g.kind n ≡ true → (n ≡ 2 → ⊥) → ⊥
-    not-it n q ne = ne (sym (eqb-true g.kind n q) ∙ is-two)
+    not_it : (n : ℕ) → eqb g.kind n ≡ true → (n ≡ 2 → ⊥) → ⊥
+    not_it n q ne = ne (sym (eqb-true g.kind n q) ∙ is_two)
 
     random_access : (eqb g.kind 1 ≡ true) ⊎ (eqb g.kind 4 ≡ true) → 0 < su.interval
-    random_access (inl q) = absurd (not-it 1 q (λ z. absurd (omega arith)))
-    random_access (inr q) = absurd (not-it 4 q (λ z. absurd (omega arith)))
+    random_access (inl q) = absurd (not_it 1 q (λ z. absurd (omega arith)))
+    random_access (inr q) = absurd (not_it 4 q (λ z. absurd (omega arith)))
 
     other : (((eqb g.kind 2 || eqb g.kind 3) && ltb 0 su.interval) ≡ true) ⊎ (((eqb g.kind 1 || eqb g.kind 4) && not (is_bundled su.kind)) ≡ true) → 0 < su.interval
     other (inl q) = ltb-true 0 su.interval (and_parts (eqb g.kind 2 || eqb g.kind 3) (ltb 0 su.interval) q).1
     other (inr q) = random_access (or_cases (eqb g.kind 1) (eqb g.kind 4) (and_parts (eqb g.kind 1 || eqb g.kind 4) (not (is_bundled su.kind)) q).0)
 
     go : (eqb g.kind 0 ≡ true) ⊎ ((((eqb g.kind 2 || eqb g.kind 3) && ltb 0 su.interval) || ((eqb g.kind 1 || eqb g.kind 4) && not (is_bundled su.kind))) ≡ true) → 0 < su.interval
-    go (inl q) = absurd (not-it 0 q (λ z. absurd (omega arith)))
+    go (inl q) = absurd (not_it 0 q (λ z. absurd (omega arith)))
     go (inr q) = other (or_cases ((eqb g.kind 2 || eqb g.kind 3) && ltb 0 su.interval) _ q)
 
 grant_facts : (su : Setup) (st : State) (g : Option Grant) → All Yes (grant_questions su st g) → GrantedBy su st.clock g
@@ -249,9 +249,9 @@ pub fresh_ok : (m : List ℕ) (d : Option (List ℕ)) (msg3 : Option ℕ) (y : G
     → (f : Fresh) → obtained y msg3 m (fitting offers) ≡ Some f → FreshOk d f
 fresh_ok m d msg3 y offers ok f e = go y.reception msg3 ok e
   where
-    from-source : (o : Option (List ℕ)) → offered (fitting_packet y.size o) ≡ Some f → FreshOk d f
-    from-source None e = absurd (none_some e)
-    from-source (Some b) e = fits (eqb (length b) y.size && within 1 645 y.size) refl e
+    from_source : (o : Option (List ℕ)) → offered (fitting_packet y.size o) ≡ Some f → FreshOk d f
+    from_source None e = absurd (none_some e)
+    from_source (Some b) e = fits (eqb (length b) y.size && within 1 645 y.size) refl e
       where
         fits : (x : Bool) → (eqb (length b) y.size && within 1 645 y.size) ≡ x → offered (cond x (Some b) None) ≡ Some f → FreshOk d f
         fits false q e = absurd (none_some e)
@@ -263,7 +263,7 @@ fresh_ok m d msg3 y offers ok f e = go y.reception msg3 ok e
             subst (FreshOk d) (some_inj e) (record { some = omega arith; short = omega arith; deposit = λ z. absurd (both_ways false refl z) })
 
     from_msg3 : (o : Option ℕ) → Msg3Ok m d o → obtained_by o y.size m (fitting offers) ≡ Some f → FreshOk d f
-    from_msg3 None ok e = from-source (offers y.size) e
+    from_msg3 None ok e = from_source (offers y.size) e
     from_msg3 (Some n) ok e =
         let l : length (part m 8 n) ≡ n = ap length ok.stored ∙ ok.measured in
         let some-n = ok.some in

@@ -27,13 +27,13 @@ use Rattle.rules.specs.Subframe.{Event, answers, meets, starts, sends, flushes, 
 use Rattle.rules.specs.Msg3.{with_msg3, deposit_questions, deposit_done, withdrawal_questions, withdrawal_done, left_unless_refused}
 use Rattle.runs.specs.Runs.{World, Brought, Call, subframe_call, deposit_call, withdrawal_call, fitting, given, count_after, subframe_step, msg3_step, Step, step_of, step}
 use Rattle.runs.specs.Stays.{Met, answer_met, Stay, Log, goes_on, amend, with_met, recorded, recorded_all, surrounded, surrounded_all, passing, passing_of_run, passing_of_stays, sendings_of_stays}
-use Rattle.runs.proofs.Memory.{part-written, part-other}
-use Rattle.runs.proofs.Amends.{Going, going_facts, length-amended, goings-other, goings-same}
+use Rattle.runs.proofs.Memory.{part_written, part_other}
+use Rattle.runs.proofs.Amends.{Going, going_facts, length_amended, goings_other, goings_same}
 use Rattle.runs.proofs.Life.{hears_same, lived, ordered_later}
 use Rattle.runs.proofs.Timing.{Timed, TimedLater, answers_below, hear_timed, quiet_own, own_timed, nobody_timed}
 use Rattle.runs.proofs.Questions.{all_yes, within_low, within_high, Ready, StoredOk, ForceOkIf, force_ok, stored_ok, Asked, asked_facts, RepetitionOk, turn_ok, Msg3Ok, fresh_ok}
-use Rattle.runs.proofs.Tied.{Scene, scene, scene_with, life_of, Good, good_kept, Change, life-more, good-amended, fewer_next}
-use Rattle.runs.proofs.Follow.{met_with, Grown, One, AllOrdered, Followed, own-process, one-after, process_change, change_ordered, total_same, follow}
+use Rattle.runs.proofs.Tied.{Scene, scene, scene_with, life_of, Good, good_kept, Change, life_more, good_amended, fewer_next}
+use Rattle.runs.proofs.Follow.{met_with, Grown, One, AllOrdered, Followed, own_process, one_after, process_change, change_ordered, total_same, follow}
 
 -- a world, what was written down of its events, and the surroundings of its processes; `n` is the radio's count at set-up
 pub record Sound (su : Setup) (n : ℕ) (w : World) (l : Log) (met : ℕ → List Met) : Type 0 where
@@ -87,16 +87,16 @@ module _ (su : Setup) (st : State) (m : List ℕ) (l : Log) (met : ℕ → List 
   later : AllOrdered (st.clock + 1) met
   later j jlt = ordered_later st.clock (st.clock + 1) (met j) (omega arith) (ordered j jlt)
 
-  hear-each : (o : Option ℕ) → ((i : ℕ) → o ≡ Some i → i < 8) → Hearing su st m l met (heard_at o gap a st.processes) (answer_events o st.clock a gap)
-  hear-each None below = record { eight = eight; good = good; one = one; ordered = later; deposited = refl; all = refl; stays = refl; once = λ f. refl; none = λ f. refl }
-  hear-each (Some k) below = record {
+  hear_each : (o : Option ℕ) → ((i : ℕ) → o ≡ Some i → i < 8) → Hearing su st m l met (heard_at o gap a st.processes) (answer_events o st.clock a gap)
+  hear_each None below = record { eight = eight; good = good; one = one; ordered = later; deposited = refl; all = refl; stays = refl; once = λ f. refl; none = λ f. refl }
+  hear_each (Some k) below = record {
     eight = length-set ps k p' ∙ eight;
-    good = good-amended su k x c c' ch f hearing l.stays good;
-    one = one-after ps k p' eight (below k refl) l.stays (amend k f l.stays) one (λ j ne. goings-other k f (λ s. refl) j ne l.stays) (goings-same k f (λ s. refl) (λ s. refl) l.stays ∙ one k (below k refl) ∙ ap (λ q. one_if (is_some q)) (sym (hears_same gap a (process_at ps k)).buffer));
+    good = good_amended su k x c c' ch f hearing l.stays good;
+    one = one_after ps k p' eight (below k refl) l.stays (amend k f l.stays) one (λ j ne. goings_other k f (λ s. refl) j ne l.stays) (goings_same k f (λ s. refl) (λ s. refl) l.stays ∙ one k (below k refl) ∙ ap (λ q. one_if (is_some q)) (sym (hears_same gap a (process_at ps k)).buffer));
     ordered = change_ordered k x c c' ch later;
     deposited = refl;
     all = total_same k f (λ s. length s.sendings) (λ s. refl) l.stays;
-    stays = length-amended k f l.stays;
+    stays = length_amended k f l.stays;
     once = λ c. total_same k f (λ s. passing c s.sendings) (λ s. refl) l.stays;
     none = λ c. refl;
   }
@@ -133,7 +133,7 @@ module _ (su : Setup) (st : State) (m : List ℕ) (l : Log) (met : ℕ → List 
         over = i.unended ∙ sym (ap (λ z. z.ended) here);
         room = h.room;
         going = λ u. let tied = h.going i.unended in record {
-          state = ap (process_at (set ps k p')) i.process ∙ own-process ps k p' eight (below k refl) ∙ ap (hears gap a) (ap (process_at ps) (sym i.process) ∙ tied.state) ∙ sym (ap (λ z. z.process) here);
+          state = ap (process_at (set ps k p')) i.process ∙ own_process ps k p' eight (below k refl) ∙ ap (hears gap a) (ap (process_at ps) (sym i.process) ∙ tied.state) ∙ sym (ap (λ z. z.process) here);
           stored = tied.stored;
           room = tied.room;
         };
@@ -143,7 +143,7 @@ module _ (su : Setup) (st : State) (m : List ℕ) (l : Log) (met : ℕ → List 
           i = going_facts k s e
 
           here : life_of su (c'.met s.beginning.process) s ≡ lived su s.beginning x (life_of su (met s.beginning.process) s)
-          here = life-more su k x c c' ch s e h
+          here = life_more su k x c c' ch s e h
 
 -- What a subframe leaves beside the stays.
 pub record Passed (su : Setup) (st st' : State) : Type 0 where
@@ -156,13 +156,13 @@ pub record Passed (su : Setup) (st st' : State) : Type 0 where
 transmitted_awaits : (su : Setup) (sent : Bool) (p : Process) → synchronous su.kind ≡ false → p.awaits_answer ≡ false → (transmitted su sent p).awaits_answer ≡ false
 transmitted_awaits su sent p z e = go (gives_up su p) sent
   where
-    sends-on : (x : Bool) → (cond x (advanced su p) p).awaits_answer ≡ false
-    sends-on true = ap₂ (λ x y. x || y) z e
-    sends-on false = e
+    sends_on : (x : Bool) → (cond x (advanced su p) p).awaits_answer ≡ false
+    sends_on true = ap₂ (λ x y. x || y) z e
+    sends_on false = e
 
     go : (up x : Bool) → (cond up (flushed (cond x (advanced su p) p)) (cond x (advanced su p) p)).awaits_answer ≡ false
-    go true x = sends-on x
-    go false x = sends-on x
+    go true x = sends_on x
+    go false x = sends_on x
 
 course_awaits : (su : Setup) (k : ℕ) (gap : Bool) (v : Decision) (msg3 : Option ℕ) (m : List ℕ) (offers : ℕ → Option (List ℕ)) (p : Process) → synchronous su.kind ≡ false → p.awaits_answer ≡ false
     → (concluded su k gap (work_of (course su v msg3 m offers p))).process.awaits_answer ≡ false
@@ -197,9 +197,9 @@ module _ (su : Setup) (st : State) (m : List ℕ) (gap : Bool) (offers : ℕ →
     (eight : length st.processes ≡ 8) (good : All (Good su (scene st m met)) l.stays) (one : One st.processes l.stays) (ordered : AllOrdered (st.clock + 1) met)
     (whole : length m ≡ 5805) (timed : TimedLater su.kind st.clock st.processes) (force : ForceOkIf su st.clock g) (stored : StoredOk su st.configured)
     (msg3 : Msg3Ok m l.deposited st.msg3) (repeats : RepetitionOk st.repetition) where
-  turn-followed : (o : Option ℕ) → process_of su.kind st.clock g st.repetition ≡ o
+  turn_followed : (o : Option ℕ) → process_of su.kind st.clock g st.repetition ≡ o
       → let d = turn_done su st m gap (fitting offers) g o in Followed su st m l met d (recorded_all d.events l) × Passed su st d.state
-  turn-followed None e = (
+  turn_followed None e = (
     record {
       eight = eight;
       good = All-weaker (Good su (scene st m met)) (Good su c') (λ s. good_kept su (scene st m met) c' s (record { clock = omega arith; process = refl; met = refl; parts = λ n h. refl; fewer = fewer_next st.clock st.repetition s.beginning.process })) l.stays good;
@@ -214,7 +214,7 @@ module _ (su : Setup) (st : State) (m : List ℕ) (gap : Bool) (offers : ℕ →
     where
       c' : Scene
       c' = record { processes = st.processes; memory = m; repetition = st.repetition; clock = st.clock + 1; met = met }
-  turn-followed (Some k) e =
+  turn_followed (Some k) e =
       let tk = turn_ok su su.kind st.clock g st.repetition k refl force repeats e in (
         follow su st m gap g k l met eight tk.below good one ordered (asked (decided su g p) st.msg3) st.msg3 (fitting offers) tk.paced whole
             (λ y q. quiet_own su.kind st.clock k st.processes tk.below (start y q) tk.owns timed)
@@ -248,9 +248,9 @@ msg3_kept m m' d d' None parts e h = tt
 msg3_kept m m' d d' (Some n) parts e h = record { bytes = h.bytes; last = e ∙ h.last; measured = h.measured; stored = parts n h.short ∙ h.stored; some = h.some; short = h.short }
 
 module _ (su : Setup) (n : ℕ) (w : World) (l : Log) (met : ℕ → List Met) (rd : Ready su) (h : Sound su n w l met) where
-  subframe-sound : (b : Brought) → first_no (subframe_questions su w.state (length w.memory) (given w b).ready (given w b).gap b.answer b.grant) ≡ Ok tt
+  subframe_sound : (b : Brought) → first_no (subframe_questions su w.state (length w.memory) (given w b).ready (given w b).gap b.answer b.grant) ≡ Ok tt
       → let d = subframe_done su w.state w.memory (given w b) in Stepped su n l met (record { world = record { state = d.state; memory = d.memory; count = count_after d.sending w.count }; events = d.events })
-  subframe-sound b yes-all = (
+  subframe_sound b yes-all = (
     subst (λ l'. Sound su n w' l' (met_with (es ++ d.events) met)) (sym (recorded_append es d.events l))
         (subst (Sound su n w' (recorded_all d.events l₁)) (sym (met_append es d.events met))
         (record {
@@ -300,7 +300,7 @@ module _ (su : Setup) (n : ℕ) (w : World) (l : Log) (met : ℕ → List Met) (
       q = asked_facts su st w.memory (given w b).ready gap b.answer b.grant yes-all
 
       hd : Hearing su st w.memory l met s₂.processes es
-      hd = hear-each su st w.memory l met gap b.answer h.eight h.good h.one h.ordered o (answers_below su.kind t)
+      hd = hear_each su st w.memory l met gap b.answer h.eight h.good h.one h.ordered o (answers_below su.kind t)
 
       l₁ : Log
       l₁ = recorded_all es l
@@ -318,7 +318,7 @@ module _ (su : Setup) (n : ℕ) (w : World) (l : Log) (met : ℕ → List Met) (
       w' = record { state = d.state; memory = d.memory; count = count_after d.sending w.count }
 
       fw : Followed su s₂ w.memory l₁ met₁ d (recorded_all d.events l₁) × Passed su s₂ d.state
-      fw = turn-followed su s₂ w.memory gap b.offers y l₁ met₁ hd.eight hd.good hd.one hd.ordered q.whole (hear_timed su.kind t gap b.answer st.processes h.eight h.timed)
+      fw = turn_followed su s₂ w.memory gap b.offers y l₁ met₁ hd.eight hd.good hd.one hd.ordered q.whole (hear_timed su.kind t gap b.answer st.processes h.eight h.timed)
           (force_ok su t st.configured b.grant q.granted h.stored) (stored_ok su t st.configured b.grant rd q.granted h.stored)
           (msg3_kept w.memory w.memory l.deposited l₁.deposited st.msg3 (λ i z. refl) hd.deposited h.msg3) h.repeats k refl
 
@@ -326,16 +326,16 @@ module _ (su : Setup) (n : ℕ) (w : World) (l : Log) (met : ℕ → List Met) (
       g = fw.0.grown
 
   -- the processes' stretches of packet memory are untouched by a deposit
-  deposit-sound : (b : List ℕ) → length w.memory ≡ 5805 → 1 ≤ length b → length b ≤ 645
+  deposit_sound : (b : List ℕ) → length w.memory ≡ 5805 → 1 ≤ length b → length b ≤ 645
       → Sound su n (record { state = with_msg3 w.state (Some (length b)); memory = written w.memory 8 b; count = w.count }) (record { stays = l.stays; deposited = Some b; gap = l.gap }) met
-  deposit-sound b whole some short = record {
+  deposit_sound b whole some short = record {
     eight = h.eight;
     good = All-weaker (Good su (scene w.state w.memory met)) (Good su c') elsewhere l.stays h.good;
     one = h.one;
     ordered = h.ordered;
     timed = h.timed;
     stored = h.stored;
-    msg3 = record { bytes = b; last = refl; measured = refl; stored = part-written w.memory 8 b whole (omega arith) short; some = some; short = short };
+    msg3 = record { bytes = b; last = refl; measured = refl; stored = part_written w.memory 8 b whole (omega arith) short; some = some; short = short };
     repeats = h.repeats;
     packets = h.packets;
     sent = h.sent;
@@ -349,10 +349,10 @@ module _ (su : Setup) (n : ℕ) (w : World) (l : Log) (met : ℕ → List Met) (
       elsewhere s good = good_kept su (scene w.state w.memory met) c' s (record { clock = omega arith; process = refl; met = refl; parts = parts; fewer = omega arith }) good
         where
           parts : (i : ℕ) → i ≤ 645 → part (written w.memory 8 b) s.beginning.process i ≡ part w.memory s.beginning.process i
-          parts i le = let lt = good.born.below in let ne : s.beginning.process ≢ 8 = λ e. absurd (omega arith) in part-other w.memory 8 b whole (omega arith) short s.beginning.process i le ne
+          parts i le = let lt = good.born.below in let ne : s.beginning.process ≢ 8 = λ e. absurd (omega arith) in part_other w.memory 8 b whole (omega arith) short s.beginning.process i le ne
 
-  withdrawal-sound : Sound su n (record { state = with_msg3 w.state None; memory = w.memory; count = w.count }) l met
-  withdrawal-sound = record {
+  withdrawal_sound : Sound su n (record { state = with_msg3 w.state None; memory = w.memory; count = w.count }) l met
+  withdrawal_sound = record {
     eight = h.eight;
     good = h.good;
     one = h.one;
@@ -366,17 +366,17 @@ module _ (su : Setup) (n : ℕ) (w : World) (l : Log) (met : ℕ → List Met) (
     count = h.count;
   }
 
-  nothing-once : Once l []
-  nothing-once f = omega arith
+  nothing_once : Once l []
+  nothing_once f = omega arith
 
-  pub step-sound : (c : Call) → Stepped su n l met (step su w c)
-  step-sound (subframe_call b) = go (first_no (subframe_questions su w.state (length w.memory) (given w b).ready (given w b).gap b.answer b.grant)) refl
+  pub step_sound : (c : Call) → Stepped su n l met (step su w c)
+  step_sound (subframe_call b) = go (first_no (subframe_questions su w.state (length w.memory) (given w b).ready (given w b).gap b.answer b.grant)) refl
     where
       go : (r : Result (Unit {0}) Refusal) → first_no (subframe_questions su w.state (length w.memory) (given w b).ready (given w b).gap b.answer b.grant) ≡ r
           → Stepped su n l met (step_of w (subframe_step w (unless_refused r (subframe_done su w.state w.memory (given w b)))))
-      go (Ok u) e = subframe-sound b e
-      go (Err x) e = (h, nothing-once)
-  step-sound (deposit_call b) = go (first_no qs) refl
+      go (Ok u) e = subframe_sound b e
+      go (Err x) e = (h, nothing_once)
+  step_sound (deposit_call b) = go (first_no qs) refl
     where
       qs : List (Bool × Refusal)
       qs = deposit_questions (length w.memory) (length b) w.state.msg3
@@ -384,10 +384,10 @@ module _ (su : Setup) (n : ℕ) (w : World) (l : Log) (met : ℕ → List Met) (
       go : (r : Result (Unit {0}) Refusal) → first_no qs ≡ r → Stepped su n l met (step_of w (msg3_step w (deposits b ∷ []) (left_unless_refused r (deposit_done w.state w.memory b))))
       go (Ok u) e =
           let ys = all_yes qs e in
-          (deposit-sound b (eqb-true (length w.memory) 5805 ys.0) (within_low 1 645 (length b) ys.1.0) (within_high 1 645 (length b) ys.1.0), λ f. omega arith)
-      go (Err x) e = (h, nothing-once)
-  step-sound withdrawal_call = go (first_no (withdrawal_questions w.state.msg3))
+          (deposit_sound b (eqb-true (length w.memory) 5805 ys.0) (within_low 1 645 (length b) ys.1.0) (within_high 1 645 (length b) ys.1.0), λ f. omega arith)
+      go (Err x) e = (h, nothing_once)
+  step_sound withdrawal_call = go (first_no (withdrawal_questions w.state.msg3))
     where
       go : (r : Result (Unit {0}) Refusal) → Stepped su n l met (step_of w (msg3_step w [] (left_unless_refused r (withdrawal_done w.state w.memory))))
-      go (Ok u) = (withdrawal-sound, nothing-once)
-      go (Err x) = (h, nothing-once)
+      go (Ok u) = (withdrawal_sound, nothing_once)
+      go (Err x) = (h, nothing_once)

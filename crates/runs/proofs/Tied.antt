@@ -15,8 +15,8 @@ use Rattle.rules.specs.Process.{synchronous}
 use Rattle.rules.specs.Entity.{process_at}
 use Rattle.rules.specs.Subframe.{Beginning, Event, sending_if, send_events, flush_events, repetition_by}
 use Rattle.runs.specs.Stays.{Met, Stay, Log, goes_on, amend, with_met, with_sending, with_end, new_stay, with_stays, recorded_all, subframe_of, met_after, surrounded_all, repetitions}
-use Rattle.runs.proofs.Amends.{going_facts, going_from, not_going, goings, all-amended, amend_none, amend_twice}
-use Rattle.runs.proofs.Life.{Life, life, lived, life-over, life-on, sent_if, end_if}
+use Rattle.runs.proofs.Amends.{going_facts, going_from, not_going, goings, all_amended, amend_none, amend_twice}
+use Rattle.runs.proofs.Life.{Life, life, lived, life_over, life_on, sent_if, end_if}
 use Rattle.runs.proofs.Questions.{left, Paced}
 
 -- what the stays are tied to; `met` has the surroundings of each process
@@ -90,15 +90,15 @@ pub record Change (k : ℕ) (x : Met) (c c' : Scene) : Type 0 where
 
 module _ (su : Setup) (k : ℕ) (x : Met) (c c' : Scene) (ch : Change k x c c') where
   -- what a stay of process k met is one more
-  met-more : (s : Stay) → s.beginning.process ≡ k → s.beginning.first < c.clock → met_after s.beginning.first (c'.met s.beginning.process) ≡ x ∷ met_after s.beginning.first (c.met s.beginning.process)
-  met-more s e lt =
+  met_more : (s : Stay) → s.beginning.process ≡ k → s.beginning.first < c.clock → met_after s.beginning.first (c'.met s.beginning.process) ≡ x ∷ met_after s.beginning.first (c.met s.beginning.process)
+  met_more s e lt =
       ap (λ j. met_after s.beginning.first (c'.met j)) e
       ∙ ap (met_after s.beginning.first) ch.own
       ∙ ap (λ b. cond b (x ∷ met_after s.beginning.first (c.met k)) (met_after s.beginning.first (c.met k))) (lt-ltb s.beginning.first (subframe_of x) (let d = ch.dated in omega arith))
       ∙ ap (λ j. x ∷ met_after s.beginning.first (c.met j)) (sym e)
 
-  good-over : (s : Stay) → s.beginning.process ≡ k → is_some s.ended ≡ true → Good su c s → Good su c' s
-  good-over s e z g = record {
+  good_over : (s : Stay) → s.beginning.process ≡ k → is_some s.ended ≡ true → Good su c s → Good su c' s
+  good_over s e z g = record {
     born = g.born;
     began = let a = g.began in let b = ch.clock in omega arith;
     sent = g.sent ∙ sym (ap (λ l. l.sendings) same);
@@ -109,25 +109,25 @@ module _ (su : Setup) (k : ℕ) (x : Met) (c c' : Scene) (ch : Change k x c c') 
     where
       same : life_of su (c'.met s.beginning.process) s ≡ life_of su (c.met s.beginning.process) s
       same =
-          ap (life su s.beginning s.gap) (met-more s e g.began)
-          ∙ life-over su s.beginning s.gap x (met_after s.beginning.first (c.met s.beginning.process)) (sym (ap is_some g.over) ∙ z)
+          ap (life su s.beginning s.gap) (met_more s e g.began)
+          ∙ life_over su s.beginning s.gap x (met_after s.beginning.first (c.met s.beginning.process)) (sym (ap is_some g.over) ∙ z)
 
   -- the stay that goes on lives through x
-  pub life-more : (s : Stay) → goes_on k s ≡ true → Good su c s → life_of su (c'.met s.beginning.process) s ≡ lived su s.beginning x (life_of su (c.met s.beginning.process) s)
-  life-more s e g =
+  pub life_more : (s : Stay) → goes_on k s ≡ true → Good su c s → life_of su (c'.met s.beginning.process) s ≡ lived su s.beginning x (life_of su (c.met s.beginning.process) s)
+  life_more s e g =
       let h = going_facts k s e in
-      ap (life su s.beginning s.gap) (met-more s h.process g.began)
-      ∙ life-on su s.beginning s.gap x (met_after s.beginning.first (c.met s.beginning.process)) (sym g.over ∙ h.unended)
+      ap (life su s.beginning s.gap) (met_more s h.process g.began)
+      ∙ life_on su s.beginning s.gap x (met_after s.beginning.first (c.met s.beginning.process)) (sym g.over ∙ h.unended)
 
-  pub good-amended : (f : Stay → Stay) → ((s : Stay) → goes_on k s ≡ true → Good su c s → Good su c' (f s)) → (ss : List Stay) → All (Good su c) ss → All (Good su c') (amend k f ss)
-  good-amended f h = all-amended k f (Good su c) (Good su c') h rest
+  pub good_amended : (f : Stay → Stay) → ((s : Stay) → goes_on k s ≡ true → Good su c s → Good su c' (f s)) → (ss : List Stay) → All (Good su c) ss → All (Good su c') (amend k f ss)
+  good_amended f h = all_amended k f (Good su c) (Good su c') h rest
     where
       rest : (s : Stay) → goes_on k s ≡ false → Good su c s → Good su c' s
       rest s e g = here (cases_eq s.beginning.process k)
         where
           over : (q : s.beginning.process ≡ k) → (s.beginning.process ≢ k) ⊎ (is_some s.ended ≡ true) → Good su c' s
           over q (inl ne) = absurd (ne q)
-          over q (inr z) = good-over s q z g
+          over q (inr z) = good_over s q z g
 
           here : (s.beginning.process ≡ k) ⊎ (s.beginning.process ≡ k → ⊥) → Good su c' s
           here (inl q) = over q (not_going k s e)

@@ -130,13 +130,13 @@ own_timed kd t k ps p eight klt own quiet timed j lt aw = split (cases_eq j k)
         here : p.awaits_answer ≡ true
         here = let klt' : k < length ps = omega arith in ap (λ p. p.awaits_answer) (sym (get_or-set_same ps k p idle klt')) ∙ subst (λ i. (process_at (set ps k p) i).awaits_answer ≡ true) same aw
 
-        none-later : (d : CellKind) → synchronous d ≡ false → Later d t k → ⊥
-        none-later Plain e w = both_ways true e refl
-        none-later Bundled e w = both_ways true e refl
-        none-later Asynchronous e w = w
+        none_later : (d : CellKind) → synchronous d ≡ false → Later d t k → ⊥
+        none_later Plain e w = both_ways true e refl
+        none_later Bundled e w = both_ways true e refl
+        none_later Asynchronous e w = w
 
         asynchronous : synchronous kd ≡ false → ⊥
-        asynchronous e = both_ways p.awaits_answer (quiet e (not_true_false (process_at ps k).awaits_answer (λ a. none-later kd e (timed k klt a)))) here
+        asynchronous e = both_ways p.awaits_answer (quiet e (not_true_false (process_at ps k).awaits_answer (λ a. none_later kd e (timed k klt a)))) here
 
 pub nobody_timed : (kd : CellKind) (t : ℕ) (ps : List Process) → TimedLater kd t ps → Timed kd (t + 1) ps
 nobody_timed kd t ps timed j lt aw = later_window kd t j (timed j lt aw)

@@ -1,5 +1,6 @@
 // Whole runs of a cell: what holds of every list of calls from set-up on stands in specs/. Each function here carries a theorem about them.
 #![tactic(auto)]
+
 ghost use Rattle.runs.specs.Promise.{RunsExact, StaysCounted, StaysKept, StaysAlike, PromiseHolds};
 ghost use Rattle.runs.specs.Examples.{Examples};
 

@@ -1,5 +1,6 @@
 // A cabin that goes down a shaft: a cell over a tape, piled sources and a span list. Writes what each subframe came to.
 #![tactic(auto)]
+
 mod coming;
 mod report;
 mod ride;

@@ -1,5 +1,6 @@
 // Reads the list of a site's cabins on standard input, and writes their report to standard output.
 #![tactic(auto)]
+
 use cabins::report::report;
 use std::io::{Read, Write};
 

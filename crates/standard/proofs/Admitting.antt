@@ -38,8 +38,8 @@ module _ (su : Setup) (g : Grant) (fields : fields_hold su g ≡ true) where
   by_kind : fields_by_kind su.kind g ≡ true
   by_kind = (and_parts (within 1 645 g.size) _ rest.1).1
 
-  kind-below : g.kind ≤ 4
-  kind-below = go (or_cases (eqb g.kind 0) _ allowed)
+  kind_below : g.kind ≤ 4
+  kind_below = go (or_cases (eqb g.kind 0) _ allowed)
     where
       sps : (eqb g.kind 2 ≡ true) ⊎ (eqb g.kind 3 ≡ true) → g.kind ≤ 4
       sps (inl e) = let z = eqb-true g.kind 2 e in omega arith
@@ -58,11 +58,11 @@ module _ (su : Setup) (g : Grant) (fields : fields_hold su g ≡ true) where
       go (inr e) = other (or_cases ((eqb g.kind 2 || eqb g.kind 3) && ltb 0 su.interval) _ e)
 
   pub known : Known g
-  known = record { kind = kind-below; ndi = leb-true g.ndi 1 rest.0 }
+  known = record { kind = kind_below; ndi = leb-true g.ndi 1 rest.0 }
 
   -- kind 2 goes with an interval
-  interval-some : g.kind ≡ 2 → 0 < su.interval
-  interval-some e =
+  interval_some : g.kind ≡ 2 → 0 < su.interval
+  interval_some e =
       let P : ℕ → Type 0 = λ n. (eqb n 0 || (((eqb n 2 || eqb n 3) && ltb 0 su.interval) || ((eqb n 1 || eqb n 4) && not (is_bundled su.kind)))) ≡ true in
       go (or_cases (ltb 0 su.interval) false (subst P e allowed))
     where
@@ -70,8 +70,8 @@ module _ (su : Setup) (g : Grant) (fields : fields_hold su g ≡ true) where
       go (inl z) = ltb-true 0 su.interval z
       go (inr z) = absurd (both_ways false refl z)
 
-  mcs-below : g.mcs ≤ 31
-  mcs-below = go su.kind by_kind
+  mcs_below : g.mcs ≤ 31
+  mcs_below = go su.kind by_kind
     where
       go : (kd : CellKind) → fields_by_kind kd g ≡ true → g.mcs ≤ 31
       go Plain e = leb-true g.mcs 31 (and_parts (leb g.mcs 31) _ e).0
@@ -79,16 +79,16 @@ module _ (su : Setup) (g : Grant) (fields : fields_hold su g ≡ true) where
       go Asynchronous e = let le = leb-true g.mcs 28 (and_parts (leb g.mcs 28) _ e).0 in omega arith
 
   module _ (a : su.kind ≡ Asynchronous) where
-    abbrev after-mcs : (leb g.version 3 && (leb g.process 7 && ((eqb g.process 0 || not (eqb g.kind 1 || eqb g.kind 4)) && within 1 32 g.repetitions))) ≡ true
-    after-mcs = (and_parts (leb g.mcs 28) _ (subst (λ kd. fields_by_kind kd g ≡ true) a by_kind)).1
+    abbrev after_mcs : (leb g.version 3 && (leb g.process 7 && ((eqb g.process 0 || not (eqb g.kind 1 || eqb g.kind 4)) && within 1 32 g.repetitions))) ≡ true
+    after_mcs = (and_parts (leb g.mcs 28) _ (subst (λ kd. fields_by_kind kd g ≡ true) a by_kind)).1
 
     version_below : g.version ≤ 3
-    version_below = leb-true g.version 3 (and_parts (leb g.version 3) _ after-mcs).0
+    version_below = leb-true g.version 3 (and_parts (leb g.version 3) _ after_mcs).0
 
-    process-zero : g.kind ≡ 4 → g.process ≡ 0
-    process-zero e =
+    process_zero : g.kind ≡ 4 → g.process ≡ 0
+    process_zero e =
         let P : ℕ → Type 0 = λ n. (eqb g.process 0 || not (eqb n 1 || eqb n 4)) ≡ true in
-        go (or_cases (eqb g.process 0) false (subst P e (and_parts (eqb g.process 0 || not (eqb g.kind 1 || eqb g.kind 4)) _ (and_parts (leb g.process 7) _ (and_parts (leb g.version 3) _ after-mcs).1).1).0))
+        go (or_cases (eqb g.process 0) false (subst P e (and_parts (eqb g.process 0 || not (eqb g.kind 1 || eqb g.kind 4)) _ (and_parts (leb g.process 7) _ (and_parts (leb g.version 3) _ after_mcs).1).1).0))
       where
         go : (eqb g.process 0 ≡ true) ⊎ (◌≡◌ {A = Bool} false true) → g.process ≡ 0
         go (inl z) = eqb-true g.process 0 z
@@ -100,11 +100,11 @@ known_if su (Some g) f = known su g f
 
 -- what is delivered
 pub delivers_proper : (su : Setup) (t : ℕ) (mc : Option ts.Configured) (g : Option Grant) (u : Option ts.UplinkGrant) (c : Option ts.Configured) → Accepted su → ts.Delivers su t mc g u c → Fields su g → ProperIf su u
-delivers_proper su t mc g u c acc (ts.CRntiGrant mc₁ g₁ e) f = record { zero = λ a r. let z : ◌≡◌ {A = ℕ} 0 1 = cc in absurd (omega arith); plain = λ r. let z : ◌≡◌ {A = ℕ} 0 1 = cc in absurd (omega arith); version = version_below su g₁ f; mcs = λ n. mcs-below su g₁ f }
-delivers_proper su t mc g u c acc (ts.TemporaryCRntiGrant mc₁ g₁ e) f = record { zero = λ a r. let z : ◌≡◌ {A = ℕ} 0 1 = cc in absurd (omega arith); plain = λ r. let z : ◌≡◌ {A = ℕ} 0 1 = cc in absurd (omega arith); version = version_below su g₁ f; mcs = λ n. mcs-below su g₁ f }
-delivers_proper su t mc g u c acc (ts.RandomAccessResponseGrant mc₁ g₁ e) f = record { zero = λ a r. process-zero su g₁ f a e; plain = λ r. let z : ◌≡◌ {A = ℕ} 0 1 = cc in absurd (omega arith); version = version_below su g₁ f; mcs = λ n. mcs-below su g₁ f }
-delivers_proper su t mc g u c acc (ts.SpsRetransmission mc₁ g₁ e n) f = record { zero = λ a r. let z : ◌≡◌ {A = ℕ} 0 1 = cc in absurd (omega arith); plain = λ r. let z : ◌≡◌ {A = ℕ} 0 1 = cc in absurd (omega arith); version = version_below su g₁ f; mcs = λ n. mcs-below su g₁ f }
+delivers_proper su t mc g u c acc (ts.CRntiGrant mc₁ g₁ e) f = record { zero = λ a r. let z : ◌≡◌ {A = ℕ} 0 1 = cc in absurd (omega arith); plain = λ r. let z : ◌≡◌ {A = ℕ} 0 1 = cc in absurd (omega arith); version = version_below su g₁ f; mcs = λ n. mcs_below su g₁ f }
+delivers_proper su t mc g u c acc (ts.TemporaryCRntiGrant mc₁ g₁ e) f = record { zero = λ a r. let z : ◌≡◌ {A = ℕ} 0 1 = cc in absurd (omega arith); plain = λ r. let z : ◌≡◌ {A = ℕ} 0 1 = cc in absurd (omega arith); version = version_below su g₁ f; mcs = λ n. mcs_below su g₁ f }
+delivers_proper su t mc g u c acc (ts.RandomAccessResponseGrant mc₁ g₁ e) f = record { zero = λ a r. process_zero su g₁ f a e; plain = λ r. let z : ◌≡◌ {A = ℕ} 0 1 = cc in absurd (omega arith); version = version_below su g₁ f; mcs = λ n. mcs_below su g₁ f }
+delivers_proper su t mc g u c acc (ts.SpsRetransmission mc₁ g₁ e n) f = record { zero = λ a r. let z : ◌≡◌ {A = ℕ} 0 1 = cc in absurd (omega arith); plain = λ r. let z : ◌≡◌ {A = ℕ} 0 1 = cc in absurd (omega arith); version = version_below su g₁ f; mcs = λ n. mcs_below su g₁ f }
 delivers_proper su t mc g u c acc (ts.SpsRelease mc₁ g₁ e) f = tt
-delivers_proper su t mc g u c acc (ts.SpsActivation mc₁ g₁ e n) f = record { zero = λ a r. let z : ◌≡◌ {A = ℕ} 0 1 = cc in absurd (omega arith); plain = λ r. interval_plain su acc (interval-some su g₁ f e); version = version_below su g₁ f; mcs = λ n. mcs-below su g₁ f }
+delivers_proper su t mc g u c acc (ts.SpsActivation mc₁ g₁ e n) f = record { zero = λ a r. let z : ◌≡◌ {A = ℕ} 0 1 = cc in absurd (omega arith); plain = λ r. interval_plain su acc (interval_some su g₁ f e); version = version_below su g₁ f; mcs = λ n. mcs_below su g₁ f }
 delivers_proper su t mc g u c acc (ts.configured_occurs c₁ o) f = record { zero = λ a r. refl; plain = λ r. interval_plain su acc o.2; version = λ a. omega arith; mcs = λ n. absurd (n refl) }
 delivers_proper su t mc g u c acc (ts.no_grant mc₁ never) f = tt

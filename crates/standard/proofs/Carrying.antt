@@ -18,7 +18,7 @@ use Rattle.rules.specs.Entity.{Course, rests, begins, again, work_of, memory_aft
 use Rattle.rules.specs.Subframe.{concluded, sending_by, sending_if, sending}
 use Rattle.rules.specs.Invariant.{Bounds}
 use Rattle.runs.proofs.Amends.{none_some, some_inj}
-use Rattle.runs.proofs.Memory.{part-written}
+use Rattle.runs.proofs.Memory.{part_written}
 use Rattle.standard.specs.Ts36321 as ts
 use Rattle.standard.proofs.Likeness.{held_in, reference, Due, Owns, Like, reception, in_force, due_sent}
 use Rattle.standard.proofs.Requesting.{Matches}
@@ -116,8 +116,8 @@ module _ (su : Setup) (t : ℕ) (m : List ℕ) (k : ℕ) (gap : Bool) (whole : l
     never : {A : Type 0} → ts.Synchronous su.kind → synchronous su.kind ≡ false → A
     never s z = absurd (both_ways (synchronous su.kind) z (synchronous_true su.kind s))
 
-    pub prepares-sound : (r : ts.Request) (h₁ : ts.HarqProcess) (b : Bool) (c : Course) → ts.Prepares su h r h₁ b → Matches su p r c → Short r → Prepared h₁ b c
-    prepares-sound r h₁ b c (ts.new_synchronous pdu m3 g n v s cmp) e short =
+    pub prepares_sound : (r : ts.Request) (h₁ : ts.HarqProcess) (b : Bool) (c : Course) → ts.Prepares su h r h₁ b → Matches su p r c → Short r → Prepared h₁ b c
+    prepares_sound r h₁ b c (ts.new_synchronous pdu m3 g n v s cmp) e short =
         subst (Prepared h₁ true) (sym e)
         (record {
           process = renewed su (in_force g) (length pdu) m3 p;
@@ -125,7 +125,7 @@ module _ (su : Setup) (t : ℕ) (m : List ℕ) (k : ℕ) (gap : Bool) (whole : l
           kept_back = refl;
           trial = record { told = refl; left = refl };
           like = record {
-            buffer = ap Some (sym (part-written m k pdu whole (omega arith) short));
+            buffer = ap Some (sym (part_written m k pdu whole (omega arith) short));
             from_msg3 = refl;
             count = refl;
             feedback = refl;
@@ -138,7 +138,7 @@ module _ (su : Setup) (t : ℕ) (m : List ℕ) (k : ℕ) (gap : Bool) (whole : l
           };
           index = let z = first_synchronous su.kind (in_force g) s in omega arith;
         })
-    prepares-sound r h₁ b c (ts.new_asynchronous pdu m3 g n v j a cmp i) e short =
+    prepares_sound r h₁ b c (ts.new_asynchronous pdu m3 g n v j a cmp i) e short =
         let here : j ≡ (first_index su.kind (in_force g)).0 = index_same g.redundancy_version j i ∙ sym (ap (λ x. (first_index x (in_force g)).0) a) in
         let rest = like.resting (asynchronous a) in
         subst (Prepared h₁ true) (sym e)
@@ -148,7 +148,7 @@ module _ (su : Setup) (t : ℕ) (m : List ℕ) (k : ℕ) (gap : Bool) (whole : l
           kept_back = refl;
           trial = record { told = refl; left = refl };
           like = record {
-            buffer = ap Some (sym (part-written m k pdu whole (omega arith) short));
+            buffer = ap Some (sym (part_written m k pdu whole (omega arith) short));
             from_msg3 = refl;
             count = like.count ∙ rest.1;
             feedback = like.feedback ∙ rest.0;
@@ -161,7 +161,7 @@ module _ (su : Setup) (t : ℕ) (m : List ℕ) (k : ℕ) (gap : Bool) (whole : l
           };
           index = let lt = index_below g.redundancy_version j i in omega arith;
         })
-    prepares-sound r h₁ b c (ts.adaptive_synchronous g n v x j s sy cmp ver i used) e short =
+    prepares_sound r h₁ b c (ts.adaptive_synchronous g n v x j s sy cmp ver i used) e short =
         let here : j ≡ (index_of (granted_version su.kind (in_force g))).0 =
         index_same x j i ∙ ap (λ z. (index_of (record { 0 = z })).0) (version_by_mcs g.MCS x ver) ∙ sym (ap (λ z. (index_of z).0) (granted_synchronous su.kind (in_force g) sy)) in
         subst (Prepared h₁ true) (sym e)
@@ -184,7 +184,7 @@ module _ (su : Setup) (t : ℕ) (m : List ℕ) (k : ℕ) (gap : Bool) (whole : l
           };
           index = let lt = index_below x j i in omega arith;
         })
-    prepares-sound r h₁ b c (ts.adaptive_asynchronous g n v j s a cmp i used) e short =
+    prepares_sound r h₁ b c (ts.adaptive_asynchronous g n v j s a cmp i used) e short =
         let here : j ≡ (index_of (granted_version su.kind (in_force g))).0 = index_same g.redundancy_version j i ∙ sym (ap (λ z. (index_of (granted_version z (in_force g))).0) a) in
         let rest = like.resting (asynchronous a) in
         let same : counted su.kind p.current_tx_nb ≡ p.current_tx_nb = ap (λ z. counted z p.current_tx_nb) a in
@@ -208,7 +208,7 @@ module _ (su : Setup) (t : ℕ) (m : List ℕ) (k : ℕ) (gap : Bool) (whole : l
           };
           index = let lt = index_below g.redundancy_version j i in omega arith;
         })
-    prepares-sound r h₁ b c (ts.non_adaptive_nack sy f) e short =
+    prepares_sound r h₁ b c (ts.non_adaptive_nack sy f) e short =
         subst (Prepared h₁ true) (sym e)
         (record {
           process = repeated su p;
@@ -229,7 +229,7 @@ module _ (su : Setup) (t : ℕ) (m : List ℕ) (k : ℕ) (gap : Bool) (whole : l
           };
           index = index;
         })
-    prepares-sound r h₁ b c (ts.non_adaptive_ack sy f) e short =
+    prepares_sound r h₁ b c (ts.non_adaptive_ack sy f) e short =
         subst (Prepared h₁ false) (sym e)
         (record {
           process = repeated su p;
@@ -250,7 +250,7 @@ module _ (su : Setup) (t : ℕ) (m : List ℕ) (k : ℕ) (gap : Bool) (whole : l
           };
           index = index;
         })
-    prepares-sound r h₁ b c (ts.non_adaptive_asynchronous a) e short =
+    prepares_sound r h₁ b c (ts.non_adaptive_asynchronous a) e short =
         let rest = like.resting (asynchronous a) in
         let same : counted su.kind p.current_tx_nb ≡ p.current_tx_nb = ap (λ z. counted z p.current_tx_nb) a in
         subst (Prepared h₁ true) (sym e)
@@ -289,8 +289,8 @@ module _ (su : Setup) (t : ℕ) (m : List ℕ) (k : ℕ) (gap : Bool) (h : ts.Ha
   abbrev Generated : Bool → Option Sending → ts.HarqProcess → Type 0
   Generated air x h' = (x ≡ sending_if air (sending_by t k m p)) × Like su (t + 1) m k h' (cond air (advanced su p) p)
 
-  on-the-air : (pdu : List ℕ) (f : Option ℕ) → h.buffer ≡ Some pdu → ts.FeedbackFalls t h.feedback_time su.kind f → Generated true (Some (ts.transmission t k h pdu)) (ts.transmitted h f)
-  on-the-air pdu f has falls = (
+  on_the_air : (pdu : List ℕ) (f : Option ℕ) → h.buffer ≡ Some pdu → ts.FeedbackFalls t h.feedback_time su.kind f → Generated true (Some (ts.transmission t k h pdu)) (ts.transmitted h f)
+  on_the_air pdu f has falls = (
     ap Some same,
     record {
       buffer = like.buffer;
@@ -315,17 +315,17 @@ module _ (su : Setup) (t : ℕ) (m : List ℕ) (k : ℕ) (gap : Bool) (h : ts.Ha
       same : ts.transmission t k h pdu ≡ sending_by t k m p
       same = λ i. record { subframe = t; process = k; version = record { 0 = version i }; mcs = like.mcs i; resource = like.resource i; packet = packet i }
 
-  air-by : (g f : Bool) → gap ≡ g → p.from_msg3 ≡ f → on_air false gap p ≡ (not g || f)
-  air-by g f e q = ap₂ (λ x y. not x || y) e q
+  air_by : (g f : Bool) → gap ≡ g → p.from_msg3 ≡ f → on_air false gap p ≡ (not g || f)
+  air_by g f e q = ap₂ (λ x y. not x || y) e q
 
-  pub generates-sound : (x : Option Sending) (h' : ts.HarqProcess) → ts.Generates su.kind t k gap h x h' → Generated (on_air false gap p) x h'
-  generates-sound x h' (ts.Msg3Pdu pdu f has m3 falls) = subst (λ a. Generated a x h') (sym (air gap)) (on-the-air pdu f has falls)
+  pub generates_sound : (x : Option Sending) (h' : ts.HarqProcess) → ts.Generates su.kind t k gap h x h' → Generated (on_air false gap p) x h'
+  generates_sound x h' (ts.Msg3Pdu pdu f has m3 falls) = subst (λ a. Generated a x h') (sym (air gap)) (on_the_air pdu f has falls)
     where
       air : (g : Bool) → (not g || p.from_msg3) ≡ true
       air true = sym like.from_msg3 ∙ m3
       air false = refl
-  generates-sound x h' (ts.no_gap pdu f has none falls) = subst (λ a. Generated a x h') (sym (air-by false p.from_msg3 none refl)) (on-the-air pdu f has falls)
-  generates-sound x h' (ts.in_gap m3 some) = subst (λ a. Generated a None h) (sym (air-by true false some (sym like.from_msg3 ∙ m3))) (refl, like)
+  generates_sound x h' (ts.no_gap pdu f has none falls) = subst (λ a. Generated a x h') (sym (air_by false p.from_msg3 none refl)) (on_the_air pdu f has falls)
+  generates_sound x h' (ts.in_gap m3 some) = subst (λ a. Generated a None h) (sym (air_by true false some (sym like.from_msg3 ∙ m3))) (refl, like)
 
 -- The maximum number of transmissions.
 maximum_same : (su : Setup) (b : Bool) → cond b su.max_harq_msg3_tx su.max_harq_tx ≡ maximum su b
@@ -343,15 +343,15 @@ module _ (su : Setup) (t : ℕ) (m : List ℕ) (k : ℕ) (h : ts.HarqProcess) (q
   abbrev Left : Bool → ts.HarqProcess → Type 0
   Left up h' = Like su t m k h' (cond up (flushed q) q)
 
-  pub flushes-sound : (h' : ts.HarqProcess) → ts.Flushes su h h' → Left (gives_up su q) h'
-  flushes-sound h' (ts.last_transmission s e) =
+  pub flushes_sound : (h' : ts.HarqProcess) → ts.Flushes su h h' → Left (gives_up su q) h'
+  flushes_sound h' (ts.last_transmission s e) =
       let c = like.count in
       let n = most in
       let some = maximum_some su q.from_msg3 bounds in
       let up : gives_up su q ≡ true = and_from (synchronous su.kind) _ (synchronous_true su.kind s) (eq-eqb (q.current_tx_nb + 1) (maximum su q.from_msg3) (omega arith)) in
       subst (λ z. Left z h') (sym up)
       (record { buffer = refl; from_msg3 = like.from_msg3; count = like.count; feedback = like.feedback; index = like.index; mcs = like.mcs; resource = like.resource; compared = like.compared; due = like.due; resting = like.resting })
-  flushes-sound h' (ts.not_last s ne) =
+  flushes_sound h' (ts.not_last s ne) =
       let c = like.count in
       let n = most in
       let differ : (q.current_tx_nb + 1 ≡ maximum su q.from_msg3 → ⊥) = λ e. ne (omega arith) in
@@ -360,7 +360,7 @@ module _ (su : Setup) (t : ℕ) (m : List ℕ) (k : ℕ) (h : ts.HarqProcess) (q
       and_none : (b : Bool) → (b && false) ≡ false
       and_none true = refl
       and_none false = refl
-  flushes-sound h' (ts.no_maximum a) = subst (λ z. Left z h) (sym (and_left (synchronous su.kind) (eqb (q.current_tx_nb + 1) (maximum su q.from_msg3)) (ap synchronous a))) like
+  flushes_sound h' (ts.no_maximum a) = subst (λ z. Left z h) (sym (and_left (synchronous su.kind) (eqb (q.current_tx_nb + 1) (maximum su q.from_msg3)) (ap synchronous a))) like
 
 -- the process after a transmission that went on the air or did not, by the process before the flush
 transmitted_by : (su : Setup) (air : Bool) (p : Process) → let q = cond air (advanced su p) p in transmitted su air p ≡ cond (gives_up su q) (flushed q) q
@@ -384,15 +384,15 @@ module _ (su : Setup) (t : ℕ) (m : List ℕ) (k : ℕ) (gap : Bool) (whole : l
     ended air x h₂ h₃ e told like₂ fl = (
       told ∙ ap (λ a. sending_if a (sending_by t k m₁ p₁)) (sym e) ∙ sym ready.trial.told,
       subst (Like su (t + 1) m₁ k h₃) (sym (transmitted_by su air p₁) ∙ ap (λ a. transmitted su a p₁) (sym e) ∙ sym ready.trial.left)
-          (flushes-sound su (t + 1) m₁ k h₂ (cond air (advanced su p₁) p₁) bounds like₂ h₃ fl),
+          (flushes_sound su (t + 1) m₁ k h₂ (cond air (advanced su p₁) p₁) bounds like₂ h₃ fl),
     )
 
-  pub carries-sound : (r : ts.Request) (x : Option Sending) (h' : ts.HarqProcess) (c : Course) → ts.CarriesOut su t k gap h r x h' → Matches su p r c → Short r → Carried c x h'
-  carries-sound r x h' c ts.nothing e short = subst (λ c. Carried c None h) (sym e.1) (refl, like)
-  carries-sound r x h' c (ts.generated r₁ h₁ h₂ h₃ x₁ pr gen fl) e short =
-      let ready : Prepared su t m k gap whole klt h₁ true c = prepares-sound su t m k gap whole klt h p like index r h₁ true c pr e short in
-      let g = generates-sound su t (memory_after m k c) k gap h₁ ready.process ready.like ready.index own x h₂ gen in
+  pub carries_sound : (r : ts.Request) (x : Option Sending) (h' : ts.HarqProcess) (c : Course) → ts.CarriesOut su t k gap h r x h' → Matches su p r c → Short r → Carried c x h'
+  carries_sound r x h' c ts.nothing e short = subst (λ c. Carried c None h) (sym e.1) (refl, like)
+  carries_sound r x h' c (ts.generated r₁ h₁ h₂ h₃ x₁ pr gen fl) e short =
+      let ready : Prepared su t m k gap whole klt h₁ true c = prepares_sound su t m k gap whole klt h p like index r h₁ true c pr e short in
+      let g = generates_sound su t (memory_after m k c) k gap h₁ ready.process ready.like ready.index own x h₂ gen in
       ended c h₁ true ready (on_air false gap ready.process) x h₂ h' (ap (λ a. on_air a gap ready.process) ready.kept_back) g.0 g.1 fl
-  carries-sound r x h' c (ts.not_generated r₁ h₁ h₂ pr fl) e short =
-      let ready : Prepared su t m k gap whole klt h₁ false c = prepares-sound su t m k gap whole klt h p like index r h₁ false c pr e short in
+  carries_sound r x h' c (ts.not_generated r₁ h₁ h₂ pr fl) e short =
+      let ready : Prepared su t m k gap whole klt h₁ false c = prepares_sound su t m k gap whole klt h p like index r h₁ false c pr e short in
       ended c h₁ false ready false None h₁ h' (ap (λ a. on_air a gap ready.process) ready.kept_back) refl ready.like fl

@@ -17,12 +17,12 @@ use Rattle.rules.specs.Invariant.{Sound}
 use Rattle.rules.proofs.Keeping.{sound_fresh, bounds_asked, admitted}
 use Rattle.runs.specs.Runs.{World, Brought, Call, subframe_call, deposit_call, withdrawal_call, given, Step, count_after, subframe_step, msg3_step, called, step_of, step, world_after, Past, set_up_world, world_now, Accepted}
 use Rattle.runs.proofs.Amends.{none_some}
-use Rattle.runs.proofs.Memory.{part-written, part-other}
+use Rattle.runs.proofs.Memory.{part_written, part_other}
 use Rattle.runs.proofs.Questions.{all_yes, within_low, within_high}
 use Rattle.standard.specs.Ts36321 as ts
 use Rattle.standard.specs.Conformance.{Happening, a_tti, Msg3Filled, Msg3Emptied, TtiOf, if_accepted, happenings, told_in, sent, with_msg3, Goes, at_rest, through_tti, with_msg3_filled, with_msg3_emptied, ByTheStandard, Reaches, HasItSend, SendsByTheStandard}
 use Rattle.standard.proofs.Likeness.{held_in, Like, Alike}
-use Rattle.standard.proofs.Performing.{performs-sound}
+use Rattle.standard.proofs.Performing.{performs_sound}
 use Rattle.standard.proofs.Totality.{performs_total}
 use Rattle.standard.proofs.Admitting.{known_if, delivers_proper}
 
@@ -43,19 +43,19 @@ established_alike p accepted = record {
 
 -- the Msg3 calls
 module _ (su : Setup) (mac : ts.MAC) (w : World) (alike : Alike su mac w) where
-  pub filled-alike : (b : List ℕ) → length w.memory ≡ 5805 → 1 ≤ length b → length b ≤ 645
+  pub filled_alike : (b : List ℕ) → length w.memory ≡ 5805 → 1 ≤ length b → length b ≤ 645
       → Alike su (with_msg3 mac (Some b)) (record { state = with_msg3 w.state (Some (length b)); memory = written w.memory 8 b; count = w.count })
-  filled-alike b whole lo hi = record {
+  filled_alike b whole lo hi = record {
     sound = record { bounds = alike.sound.bounds; packets = alike.sound.packets; sendings = alike.sound.sendings; smallest = alike.sound.smallest; largest = alike.sound.largest; shortest = lo; longest = hi; repeats = alike.sound.repeats; good = alike.sound.good };
     eight = alike.eight;
     like = λ k lt. kept k lt (alike.like k lt);
     configured = alike.configured;
     bundle = alike.bundle;
-    Msg3 = ap Some (sym (part-written w.memory 8 b whole (omega arith) hi));
+    Msg3 = ap Some (sym (part_written w.memory 8 b whole (omega arith) hi));
   }
     where
       held_kept : (k : ℕ) → k < 8 → (o : Option ℕ) → (n : ℕ) → o ≡ Some n → n ≤ 645 → held_in w.memory k o ≡ held_in (written w.memory 8 b) k o
-      held_kept k lt o n e le = subst (λ z. held_in w.memory k z ≡ held_in (written w.memory 8 b) k z) (sym e) (ap Some (sym (part-other w.memory 8 b whole (omega arith) hi k n le (λ z. absurd (omega arith)))))
+      held_kept k lt o n e le = subst (λ z. held_in w.memory k z ≡ held_in (written w.memory 8 b) k z) (sym e) (ap Some (sym (part_other w.memory 8 b whole (omega arith) hi k n le (λ z. absurd (omega arith)))))
 
       buffers : (k : ℕ) → k < 8 → (o : Option ℕ) → (process_at w.state.processes k).buffer ≡ o → held_in w.memory k o ≡ held_in (written w.memory 8 b) k o
       buffers k lt None e = refl
@@ -64,8 +64,8 @@ module _ (su : Setup) (mac : ts.MAC) (w : World) (alike : Alike su mac w) where
       kept : (k : ℕ) → k < 8 → Like su w.state.clock w.memory k (mac.process k) (process_at w.state.processes k) → Like su w.state.clock (written w.memory 8 b) k (mac.process k) (process_at w.state.processes k)
       kept k lt l = record { buffer = l.buffer ∙ buffers k lt (process_at w.state.processes k).buffer refl; from_msg3 = l.from_msg3; count = l.count; feedback = l.feedback; index = l.index; mcs = l.mcs; resource = l.resource; compared = l.compared; due = l.due; resting = l.resting }
 
-  pub emptied-alike : Alike su (with_msg3 mac None) (record { state = with_msg3 w.state None; memory = w.memory; count = w.count })
-  emptied-alike = record {
+  pub emptied_alike : Alike su (with_msg3 mac None) (record { state = with_msg3 w.state None; memory = w.memory; count = w.count })
+  emptied_alike = record {
     sound = record { bounds = alike.sound.bounds; packets = alike.sound.packets; sendings = alike.sound.sendings; smallest = alike.sound.smallest; largest = alike.sound.largest; shortest = omega arith; longest = omega arith; repeats = alike.sound.repeats; good = alike.sound.good };
     eight = alike.eight;
     like = alike.like;
@@ -83,7 +83,7 @@ module _ (su : Setup) (accepted : Accepted su) (mac : ts.MAC) (w : World) (alike
   next = record { state = done.state; memory = done.memory; count = count_after done.sending w.count }
 
   pub only_so : (x : Option Sending) (mac' : ts.MAC) → ts.Performs su mac (TtiOf w b) x mac' → (x ≡ done.sending) × Alike su mac' next
-  only_so = performs-sound su w mac alike b (λ u c d. delivers_proper su w.state.clock mac.configured b.grant u c accepted d (admitted su w.state (length w.memory) (given w b).ready (given w b).gap b.answer b.grant yes-all).fields) yes-all
+  only_so = performs_sound su w mac alike b (λ u c d. delivers_proper su w.state.clock mac.configured b.grant u c accepted d (admitted su w.state (length w.memory) (given w b).ready (given w b).gap b.answer b.grant yes-all).fields) yes-all
 
   pub so : HasItSend su mac (TtiOf w b) done.sending
   so =
@@ -104,25 +104,25 @@ module _ (su : Setup) (accepted : Accepted su) where
   Possible w cs = (mac : ts.MAC) → Alike su mac w → (mac' : ts.MAC) × Goes su mac (happenings su w cs) (sent su w cs) mac'
 
   -- one happening
-  rest-only : (mac mac' : ts.MAC) (xs : List (Option Sending)) → Goes su mac [] xs mac' → (xs ≡ []) × (mac ≡ mac')
-  rest-only mac mac' xs (at_rest m) = (refl, refl)
+  rest_only : (mac mac' : ts.MAC) (xs : List (Option Sending)) → Goes su mac [] xs mac' → (xs ≡ []) × (mac ≡ mac')
+  rest_only mac mac' xs (at_rest m) = (refl, refl)
 
-  TTI-only : (mac mac' : ts.MAC) (i : ts.TTI) (hs : List Happening) (xs : List (Option Sending)) → Goes su mac (a_tti i ∷ hs) xs mac'
+  TtiOnly : (mac mac' : ts.MAC) (i : ts.TTI) (hs : List Happening) (xs : List (Option Sending)) → Goes su mac (a_tti i ∷ hs) xs mac'
       → (x : Option Sending) × (m₁ : ts.MAC) × (ys : List (Option Sending)) × (xs ≡ x ∷ ys) × ts.Performs su mac i x m₁ × Goes su m₁ hs ys mac'
-  TTI-only mac mac' i hs xs (through_tti m m₁ m₂ i₁ x hs₁ ys pf go) = (x, m₁, ys, refl, pf, go)
+  TtiOnly mac mac' i hs xs (through_tti m m₁ m₂ i₁ x hs₁ ys pf go) = (x, m₁, ys, refl, pf, go)
 
-  filled-only : (mac mac' : ts.MAC) (b : List ℕ) (hs : List Happening) (xs : List (Option Sending)) → Goes su mac (Msg3Filled b ∷ hs) xs mac' → Goes su (with_msg3 mac (Some b)) hs xs mac'
-  filled-only mac mac' b hs xs (with_msg3_filled m m₂ b₁ hs₁ ys go) = go
+  filled_only : (mac mac' : ts.MAC) (b : List ℕ) (hs : List Happening) (xs : List (Option Sending)) → Goes su mac (Msg3Filled b ∷ hs) xs mac' → Goes su (with_msg3 mac (Some b)) hs xs mac'
+  filled_only mac mac' b hs xs (with_msg3_filled m m₂ b₁ hs₁ ys go) = go
 
-  emptied-only : (mac mac' : ts.MAC) (hs : List Happening) (xs : List (Option Sending)) → Goes su mac (Msg3Emptied ∷ hs) xs mac' → Goes su (with_msg3 mac None) hs xs mac'
-  emptied-only mac mac' hs xs (with_msg3_emptied m m₂ hs₁ ys go) = go
+  emptied_only : (mac mac' : ts.MAC) (hs : List Happening) (xs : List (Option Sending)) → Goes su mac (Msg3Emptied ∷ hs) xs mac' → Goes su (with_msg3 mac None) hs xs mac'
+  emptied_only mac mac' hs xs (with_msg3_emptied m m₂ hs₁ ys go) = go
 
   -- a call, and then the others
   abbrev Then : (World → Type 0) → Type 0
   Then P = (w : World) → P w
 
-  subframe-only : (w : World) (b : Brought) (cs : List Call) → Then (λ v. Only v cs) → Only w (subframe_call b ∷ cs)
-  subframe-only w b cs others mac alike = go (questioned su w.state (length w.memory) (given w b).ready (given w b).gap b.answer b.grant) refl
+  subframe_only : (w : World) (b : Brought) (cs : List Call) → Then (λ v. Only v cs) → Only w (subframe_call b ∷ cs)
+  subframe_only w b cs others mac alike = go (questioned su w.state (length w.memory) (given w b).ready (given w b).gap b.answer b.grant) refl
     where
       d : Done
       d = subframe_done su w.state w.memory (given w b)
@@ -135,13 +135,13 @@ module _ (su : Setup) (accepted : Accepted su) where
           → (xs ≡ told_in (unless_refused q d) ++ sent su (step_of w (stepped q)).world cs) × Alike su mac' (world_after su (step_of w (stepped q)).world cs)
       go (Err e) z xs mac' goes = others w mac alike xs mac' goes
       go (Ok u) z xs mac' goes =
-          let g = TTI-only mac mac' (TtiOf w b) _ xs goes in
+          let g = TtiOnly mac mac' (TtiOf w b) _ xs goes in
           let s = only_so su accepted mac w alike b (sym z) g.0 g.1 g.4 in
           let r = others _ g.1 s.1 g.2 mac' g.5 in
           (g.3 ∙ ap (λ x. x ∷ g.2) s.0 ∙ ap (λ ys. d.sending ∷ ys) r.0, r.1)
 
-  deposit-only : (w : World) (b : List ℕ) (cs : List Call) → Then (λ v. Only v cs) → Only w (deposit_call b ∷ cs)
-  deposit-only w b cs others mac alike = go (first_no qs) refl
+  deposit_only : (w : World) (b : List ℕ) (cs : List Call) → Then (λ v. Only v cs) → Only w (deposit_call b ∷ cs)
+  deposit_only w b cs others mac alike = go (first_no qs) refl
     where
       qs : List (Bool × Refusal)
       qs = deposit_questions (length w.memory) (length b) w.state.msg3
@@ -155,10 +155,10 @@ module _ (su : Setup) (accepted : Accepted su) where
       go (Err e) z xs mac' goes = others w mac alike xs mac' goes
       go (Ok u) z xs mac' goes =
           let ys = all_yes qs z in
-          others _ (with_msg3 mac (Some b)) (filled-alike su mac w alike b (eqb-true (length w.memory) 5805 ys.0) (within_low 1 645 (length b) ys.1.0) (within_high 1 645 (length b) ys.1.0)) xs mac' (filled-only mac mac' b _ xs goes)
+          others _ (with_msg3 mac (Some b)) (filled_alike su mac w alike b (eqb-true (length w.memory) 5805 ys.0) (within_low 1 645 (length b) ys.1.0) (within_high 1 645 (length b) ys.1.0)) xs mac' (filled_only mac mac' b _ xs goes)
 
-  withdrawal-only : (w : World) (cs : List Call) → Then (λ v. Only v cs) → Only w (withdrawal_call ∷ cs)
-  withdrawal-only w cs others mac alike = go (first_no (withdrawal_questions w.state.msg3))
+  withdrawal_only : (w : World) (cs : List Call) → Then (λ v. Only v cs) → Only w (withdrawal_call ∷ cs)
+  withdrawal_only w cs others mac alike = go (first_no (withdrawal_questions w.state.msg3))
     where
       stepped : Result (Unit {0}) Refusal → Result Step Refusal
       stepped q = msg3_step w [] (left_unless_refused q (withdrawal_done w.state w.memory))
@@ -167,16 +167,16 @@ module _ (su : Setup) (accepted : Accepted su) where
           → (xs : List (Option Sending)) (mac' : ts.MAC) → Goes su mac (if_accepted (stepped q) Msg3Emptied ++ happenings su (step_of w (stepped q)).world cs) xs mac'
           → (xs ≡ sent su (step_of w (stepped q)).world cs) × Alike su mac' (world_after su (step_of w (stepped q)).world cs)
       go (Err e) xs mac' goes = others w mac alike xs mac' goes
-      go (Ok u) xs mac' goes = others _ (with_msg3 mac None) (emptied-alike su mac w alike) xs mac' (emptied-only mac mac' _ xs goes)
+      go (Ok u) xs mac' goes = others _ (with_msg3 mac None) (emptied_alike su mac w alike) xs mac' (emptied_only mac mac' _ xs goes)
 
   pub only : (cs : List Call) (w : World) → Only w cs
-  only [] w = λ mac alike xs mac' goes. let r = rest-only mac mac' xs goes in (r.0, subst (λ z. Alike su z w) r.1 alike)
-  only (subframe_call b ∷ cs) w = subframe-only w b cs (only cs)
-  only (deposit_call b ∷ cs) w = deposit-only w b cs (only cs)
-  only (withdrawal_call ∷ cs) w = withdrawal-only w cs (only cs)
+  only [] w = λ mac alike xs mac' goes. let r = rest_only mac mac' xs goes in (r.0, subst (λ z. Alike su z w) r.1 alike)
+  only (subframe_call b ∷ cs) w = subframe_only w b cs (only cs)
+  only (deposit_call b ∷ cs) w = deposit_only w b cs (only cs)
+  only (withdrawal_call ∷ cs) w = withdrawal_only w cs (only cs)
 
-  subframe-possible : (w : World) (b : Brought) (cs : List Call) → Then (λ v. Possible v cs) → Possible w (subframe_call b ∷ cs)
-  subframe-possible w b cs others mac alike = go (questioned su w.state (length w.memory) (given w b).ready (given w b).gap b.answer b.grant) refl
+  subframe_possible : (w : World) (b : Brought) (cs : List Call) → Then (λ v. Possible v cs) → Possible w (subframe_call b ∷ cs)
+  subframe_possible w b cs others mac alike = go (questioned su w.state (length w.memory) (given w b).ready (given w b).gap b.answer b.grant) refl
     where
       d : Done
       d = subframe_done su w.state w.memory (given w b)
@@ -193,8 +193,8 @@ module _ (su : Setup) (accepted : Accepted su) where
           let r = others _ p.0 s.1 in
           (r.0, through_tti mac p.0 r.0 (TtiOf w b) d.sending _ _ p.1 r.1)
 
-  deposit-possible : (w : World) (b : List ℕ) (cs : List Call) → Then (λ v. Possible v cs) → Possible w (deposit_call b ∷ cs)
-  deposit-possible w b cs others mac alike = go (first_no qs) refl
+  deposit_possible : (w : World) (b : List ℕ) (cs : List Call) → Then (λ v. Possible v cs) → Possible w (deposit_call b ∷ cs)
+  deposit_possible w b cs others mac alike = go (first_no qs) refl
     where
       qs : List (Bool × Refusal)
       qs = deposit_questions (length w.memory) (length b) w.state.msg3
@@ -206,24 +206,24 @@ module _ (su : Setup) (accepted : Accepted su) where
       go (Err e) z = others w mac alike
       go (Ok u) z =
           let ys = all_yes qs z in
-          let r = others _ (with_msg3 mac (Some b)) (filled-alike su mac w alike b (eqb-true (length w.memory) 5805 ys.0) (within_low 1 645 (length b) ys.1.0) (within_high 1 645 (length b) ys.1.0)) in
+          let r = others _ (with_msg3 mac (Some b)) (filled_alike su mac w alike b (eqb-true (length w.memory) 5805 ys.0) (within_low 1 645 (length b) ys.1.0) (within_high 1 645 (length b) ys.1.0)) in
           (r.0, with_msg3_filled mac r.0 b _ _ r.1)
 
-  withdrawal-possible : (w : World) (cs : List Call) → Then (λ v. Possible v cs) → Possible w (withdrawal_call ∷ cs)
-  withdrawal-possible w cs others mac alike = go (first_no (withdrawal_questions w.state.msg3))
+  withdrawal_possible : (w : World) (cs : List Call) → Then (λ v. Possible v cs) → Possible w (withdrawal_call ∷ cs)
+  withdrawal_possible w cs others mac alike = go (first_no (withdrawal_questions w.state.msg3))
     where
       stepped : Result (Unit {0}) Refusal → Result Step Refusal
       stepped q = msg3_step w [] (left_unless_refused q (withdrawal_done w.state w.memory))
 
       go : (q : Result (Unit {0}) Refusal) → (mac' : ts.MAC) × Goes su mac (if_accepted (stepped q) Msg3Emptied ++ happenings su (step_of w (stepped q)).world cs) (sent su (step_of w (stepped q)).world cs) mac'
       go (Err e) = others w mac alike
-      go (Ok u) = let r = others _ (with_msg3 mac None) (emptied-alike su mac w alike) in (r.0, with_msg3_emptied mac r.0 _ _ r.1)
+      go (Ok u) = let r = others _ (with_msg3 mac None) (emptied_alike su mac w alike) in (r.0, with_msg3_emptied mac r.0 _ _ r.1)
 
   pub possible : (cs : List Call) (w : World) → Possible w cs
   possible [] w = λ mac alike. (mac, at_rest mac)
-  possible (subframe_call b ∷ cs) w = subframe-possible w b cs (possible cs)
-  possible (deposit_call b ∷ cs) w = deposit-possible w b cs (possible cs)
-  possible (withdrawal_call ∷ cs) w = withdrawal-possible w cs (possible cs)
+  possible (subframe_call b ∷ cs) w = subframe_possible w b cs (possible cs)
+  possible (deposit_call b ∷ cs) w = deposit_possible w b cs (possible cs)
+  possible (withdrawal_call ∷ cs) w = withdrawal_possible w cs (possible cs)
 
 pub by_the_standard : (p : Past) → Accepted p.setup → ByTheStandard p
 by_the_standard p a = record {

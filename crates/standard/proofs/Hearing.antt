@@ -22,14 +22,14 @@ module _ (kd : CellKind) (t : ℕ) (gap : Bool) (a : Option Feedback) (ps : List
   after = process_at (heard_at (answering kd t) gap a ps) k
 
   -- an answer falls for process k
-  falls-here : answering kd t ≡ Some k → after ≡ hears gap a before
-  falls-here e =
+  falls_here : answering kd t ≡ Some k → after ≡ hears gap a before
+  falls_here e =
       let klt : k < length ps = omega arith in
       ap (λ o. process_at (heard_at o gap a ps) k) e ∙ get_or-set_same ps k (hears gap a before) idle klt
 
   -- an answer falls for another process, or for none
-  falls-elsewhere : (answering kd t ≡ Some k → ⊥) → after ≡ before
-  falls-elsewhere ne = go (answering kd t) refl
+  falls_elsewhere : (answering kd t ≡ Some k → ⊥) → after ≡ before
+  falls_elsewhere ne = go (answering kd t) refl
     where
       go : (o : Option ℕ) → answering kd t ≡ o → process_at (heard_at o gap a ps) k ≡ before
       go None e = refl
@@ -37,23 +37,23 @@ module _ (kd : CellKind) (t : ℕ) (gap : Bool) (a : Option Feedback) (ps : List
 
   module _ (f : Option ℕ) (due : Due kd t k f before.awaits_answer) where
     -- the time of its feedback
-    pub heard-now : f ≡ Some t → after ≡ with_feedback before (feedback_heard gap before.from_msg3 a before.harq_feedback)
-    heard-now e =
+    pub heard_now : f ≡ Some t → after ≡ with_feedback before (feedback_heard gap before.from_msg3 a before.harq_feedback)
+    heard_now e =
         let d = now_due kd t k f before.awaits_answer due e in
-        falls-here d.1 ∙ ap (λ b. cond b (with_feedback before (feedback_heard gap before.from_msg3 a before.harq_feedback)) before) d.0
+        falls_here d.1 ∙ ap (λ b. cond b (with_feedback before (feedback_heard gap before.from_msg3 a before.harq_feedback)) before) d.0
 
     -- any other time
-    pub not-heard : (f ≡ Some t → ⊥) → after ≡ before
-    not-heard ne = go before.awaits_answer refl (answering kd t) refl
+    pub not_heard : (f ≡ Some t → ⊥) → after ≡ before
+    not_heard ne = go before.awaits_answer refl (answering kd t) refl
       where
         go : (x : Bool) → before.awaits_answer ≡ x → (o : Option ℕ) → answering kd t ≡ o → after ≡ before
-        go true e o q = falls-elsewhere (λ z. ne (due_now kd t k f (subst (Due kd t k f) e due) z))
-        go false e None q = falls-elsewhere (λ z. none_some (sym q ∙ z))
+        go true e o q = falls_elsewhere (λ z. ne (due_now kd t k f (subst (Due kd t k f) e due) z))
+        go false e None q = falls_elsewhere (λ z. none_some (sym q ∙ z))
         go false e (Some j) q = split (cases_eq j k)
           where
             split : (j ≡ k) ⊎ (j ≡ k → ⊥) → after ≡ before
-            split (inl same) = falls-here (q ∙ ap Some same) ∙ ap (λ b. cond b (with_feedback before (feedback_heard gap before.from_msg3 a before.harq_feedback)) before) e
-            split (inr ne) = falls-elsewhere (λ z. ne (some_inj (sym q ∙ z)))
+            split (inl same) = falls_here (q ∙ ap Some same) ∙ ap (λ b. cond b (with_feedback before (feedback_heard gap before.from_msg3 a before.harq_feedback)) before) e
+            split (inr ne) = falls_elsewhere (λ z. ne (some_inj (sym q ∙ z)))
 
 never_due : (kd : CellKind) (t k : ℕ) (f : Option ℕ) (a : Bool) → synchronous kd ≡ false → Due kd t k f a → f ≡ Some t → ⊥
 never_due Plain t k f a z d e = both_ways true z refl
@@ -66,11 +66,11 @@ module _ (su : Setup) (t : ℕ) (m : List ℕ) (ps : List Process) (k : ℕ) (ei
   p = process_at ps k
 
   -- the feedback is what the rules have
-  feedback-same : (g : Feedback) → h.feedback_time ≡ Some i.time → feedback_heard i.gap p.from_msg3 i.feedback p.harq_feedback ≡ g
+  feedback_same : (g : Feedback) → h.feedback_time ≡ Some i.time → feedback_heard i.gap p.from_msg3 i.feedback p.harq_feedback ≡ g
       → Like su (t + 1) m k (ts.heard h g) (process_at (heard_at (answering su.kind t) i.gap i.feedback ps) k)
-  feedback-same g e q =
+  feedback_same g e q =
       let e' : h.feedback_time ≡ Some t = e ∙ ap Some now in
-      subst (Like su (t + 1) m k (ts.heard h g)) (sym (heard-now su.kind t i.gap i.feedback ps k eight lt h.feedback_time like.due e'))
+      subst (Like su (t + 1) m k (ts.heard h g)) (sym (heard_now su.kind t i.gap i.feedback ps k eight lt h.feedback_time like.due e'))
       (record {
         buffer = like.buffer;
         from_msg3 = like.from_msg3;
@@ -84,10 +84,10 @@ module _ (su : Setup) (t : ℕ) (m : List ℕ) (ps : List Process) (k : ℕ) (ei
         resting = λ z. absurd (never_due su.kind t k h.feedback_time p.awaits_answer z like.due e');
       })
 
-  at-other-time : (h.feedback_time ≡ Some i.time → ⊥) → Like su (t + 1) m k (ts.heard h h.HARQ_FEEDBACK) (process_at (heard_at (answering su.kind t) i.gap i.feedback ps) k)
-  at-other-time ne =
+  at_other_time : (h.feedback_time ≡ Some i.time → ⊥) → Like su (t + 1) m k (ts.heard h h.HARQ_FEEDBACK) (process_at (heard_at (answering su.kind t) i.gap i.feedback ps) k)
+  at_other_time ne =
       let ne' : h.feedback_time ≡ Some t → ⊥ = λ e. ne (e ∙ ap Some (sym now)) in
-      subst (Like su (t + 1) m k h) (sym (not-heard su.kind t i.gap i.feedback ps k eight lt h.feedback_time like.due ne'))
+      subst (Like su (t + 1) m k h) (sym (not_heard su.kind t i.gap i.feedback ps k eight lt h.feedback_time like.due ne'))
       (record {
         buffer = like.buffer;
         from_msg3 = like.from_msg3;
@@ -101,9 +101,9 @@ module _ (su : Setup) (t : ℕ) (m : List ℕ) (ps : List Process) (k : ℕ) (ei
         resting = like.resting;
       })
 
-  pub like-heard : (f : Feedback) → ts.Hears i h f → Like su (t + 1) m k (ts.heard h f) (process_at (heard_at (answering su.kind t) i.gap i.feedback ps) k)
-  like-heard f (ts.feedback_received f₁ e gap a) = feedback-same f₁ e (rw (gap, a) refl)
-  like-heard f (ts.gap_at_feedback e gap m3) = feedback-same Ack e (let q : p.from_msg3 ≡ false = sym like.from_msg3 ∙ m3 in rw (gap, q) refl)
-  like-heard f (ts.gap_at_msg3_feedback e gap m3) = feedback-same h.HARQ_FEEDBACK e (let q : p.from_msg3 ≡ true = sym like.from_msg3 ∙ m3 in rw (gap, q) (sym like.feedback))
-  like-heard f (ts.no_feedback e gap a) = feedback-same h.HARQ_FEEDBACK e (rw (gap, a) (sym like.feedback))
-  like-heard f (ts.other_time ne) = at-other-time ne
+  pub like_heard : (f : Feedback) → ts.Hears i h f → Like su (t + 1) m k (ts.heard h f) (process_at (heard_at (answering su.kind t) i.gap i.feedback ps) k)
+  like_heard f (ts.feedback_received f₁ e gap a) = feedback_same f₁ e (rw (gap, a) refl)
+  like_heard f (ts.gap_at_feedback e gap m3) = feedback_same Ack e (let q : p.from_msg3 ≡ false = sym like.from_msg3 ∙ m3 in rw (gap, q) refl)
+  like_heard f (ts.gap_at_msg3_feedback e gap m3) = feedback_same h.HARQ_FEEDBACK e (let q : p.from_msg3 ≡ true = sym like.from_msg3 ∙ m3 in rw (gap, q) (sym like.feedback))
+  like_heard f (ts.no_feedback e gap a) = feedback_same h.HARQ_FEEDBACK e (rw (gap, a) (sym like.feedback))
+  like_heard f (ts.other_time ne) = at_other_time ne

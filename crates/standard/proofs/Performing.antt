@@ -27,14 +27,14 @@ use Rattle.rules.specs.Invariant.{Good, Sound, SizedGrant, NamedBelow, FreshSize
 use Rattle.rules.proofs.Keeping.{good_referred, good_concluded, sized_in_force, named_in_force, process_bound, sound_heard, sound_stored, sane, loaded_work, sound_finished, sound_moved, repeated_after, Fields, Admitted, admitted}
 use Rattle.runs.specs.Runs.{World, Brought, fitting_packet, fitting, given, count_after}
 use Rattle.runs.proofs.Amends.{none_some, some_inj}
-use Rattle.runs.proofs.Memory.{part-other}
+use Rattle.runs.proofs.Memory.{part_other}
 use Rattle.standard.specs.Ts36321 as ts
 use Rattle.standard.specs.Conformance.{TtiOf}
 use Rattle.standard.proofs.Likeness.{held_in, Owns, Like, in_force, in_force_if, stored_as, BundledAlike, Alike}
-use Rattle.standard.proofs.Hearing.{like-heard}
+use Rattle.standard.proofs.Hearing.{like_heard}
 use Rattle.standard.proofs.Granting.{Delivered, delivers_sound, Proper, ProperIf, identifies_sound, none_identified, owns}
-use Rattle.standard.proofs.Requesting.{notes-sound, Matches, requests-sound}
-use Rattle.standard.proofs.Carrying.{Short, synchronous_true, Carried, carries-sound}
+use Rattle.standard.proofs.Requesting.{notes_sound, Matches, requests_sound}
+use Rattle.standard.proofs.Carrying.{Short, synchronous_true, Carried, carries_sound}
 
 -- Sizes.
 abbrev pub Sized : List ℕ → Type 0
@@ -66,24 +66,24 @@ Msg3Sized m (Some n) b whole lo hi e = let l = part_length m n whole hi in subst
 
 -- what a new transmission obtains
 module _ (m : List ℕ) (o : Option ℕ) (offers : ℕ → Option (List ℕ)) (whole : length m ≡ 5805) (lo : 1 ≤ unwrap_or o 1) (hi : unwrap_or o 1 ≤ 645) where
-  from-source : (x : Option (List ℕ)) → ((b : List ℕ) → x ≡ Some b → Sized b) → FreshSized (offered x)
-  from-source None h = tt
-  from-source (Some b) h = h b refl
+  from_source : (x : Option (List ℕ)) → ((b : List ℕ) → x ≡ Some b → Sized b) → FreshSized (offered x)
+  from_source None h = tt
+  from_source (Some b) h = h b refl
 
-  obtained-sized : (y : Option ℕ) (size : ℕ) → 1 ≤ unwrap_or y 1 → unwrap_or y 1 ≤ 645 → FreshSized (obtained_by y size m (fitting offers))
-  obtained-sized None size lo hi = from-source (fitting offers size) (fitting_sized offers size)
-  obtained-sized (Some n) size lo hi = let l = part_length m n whole hi in (omega arith, omega arith)
+  obtained_sized : (y : Option ℕ) (size : ℕ) → 1 ≤ unwrap_or y 1 → unwrap_or y 1 ≤ 645 → FreshSized (obtained_by y size m (fitting offers))
+  obtained_sized None size lo hi = from_source (fitting offers size) (fitting_sized offers size)
+  obtained_sized (Some n) size lo hi = let l = part_length m n whole hi in (omega arith, omega arith)
 
-  taken-sized : (r : Reception) (size : ℕ) → FreshSized (obtained_by (msg3_taken r o) size m (fitting offers))
-  taken-sized (CRnti n) size = obtained-sized None size (omega arith) (omega arith)
-  taken-sized TemporaryCRnti size = obtained-sized None size (omega arith) (omega arith)
-  taken-sized SpsRetransmission size = obtained-sized None size (omega arith) (omega arith)
-  taken-sized Configured size = obtained-sized None size (omega arith) (omega arith)
-  taken-sized RandomAccessResponse size = obtained-sized o size lo hi
+  taken_sized : (r : Reception) (size : ℕ) → FreshSized (obtained_by (msg3_taken r o) size m (fitting offers))
+  taken_sized (CRnti n) size = obtained_sized None size (omega arith) (omega arith)
+  taken_sized TemporaryCRnti size = obtained_sized None size (omega arith) (omega arith)
+  taken_sized SpsRetransmission size = obtained_sized None size (omega arith) (omega arith)
+  taken_sized Configured size = obtained_sized None size (omega arith) (omega arith)
+  taken_sized RandomAccessResponse size = obtained_sized o size lo hi
 
   obtains : (d : Decision) → Obtains d o m (fitting offers)
   obtains (decision.Rest x) = tt
-  obtains (decision.New g) = taken-sized g.reception g.size
+  obtains (decision.New g) = taken_sized g.reception g.size
   obtains (decision.Adaptive g) = tt
   obtains decision.NonAdaptive = tt
 
@@ -130,14 +130,14 @@ module _ (su : Setup) (t k : ℕ) (b : Option ts.Bundle) (rep : Option Repetitio
   stays : (r : Option Repetition) → r ≡ rep → BundledAlike (t + 1) b r
   stays r e = subst (BundledAlike (t + 1) b) (sym e) (alike_later t b rep alike)
 
-  by-synchronous : (kd : CellKind) (y : Option GrantInForce) → ts.Synchronous kd → repetition_by kd t y rep ≡ rep
-  by-synchronous kd y ts.plain = refl
-  by-synchronous kd y ts.bundled = refl
+  by_synchronous : (kd : CellKind) (y : Option GrantInForce) → ts.Synchronous kd → repetition_by kd t y rep ≡ rep
+  by_synchronous kd y ts.plain = refl
+  by_synchronous kd y ts.bundled = refl
 
-  by-none : (kd : CellKind) → repetition_by kd t None rep ≡ rep
-  by-none Plain = refl
-  by-none Bundled = refl
-  by-none Asynchronous = refl
+  by_none : (kd : CellKind) → repetition_by kd t None rep ≡ rep
+  by_none Plain = refl
+  by_none Bundled = refl
+  by_none Asynchronous = refl
 
   started : (g : ts.UplinkGrant) → su.kind ≡ Asynchronous → u ≡ Some g → BundledAlike (t + 1) (Some (record { process = k; start = t; number = g.UL_REPETITION_NUMBER })) (repetition_by su.kind t (in_force_if u) rep)
   started g a link =
@@ -147,18 +147,18 @@ module _ (su : Setup) (t k : ℕ) (b : Option ts.Bundle) (rep : Option Repetitio
       subst (BundledAlike (t + 1) (Some (record { process = k; start = t; number = g.UL_REPETITION_NUMBER }))) (sym same) (sym named, refl, omega arith)
 
   again_kept : Linked u ts.non_adaptive_retransmission → repetition_by su.kind t (in_force_if u) rep ≡ rep
-  again_kept (inl e) = ap (λ v. repetition_by su.kind t (in_force_if v) rep) e ∙ by-none su.kind
+  again_kept (inl e) = ap (λ v. repetition_by su.kind t (in_force_if v) rep) e ∙ by_none su.kind
   again_kept (inr x) =
       let proper : Proper su x.0 = subst (ProperIf su) x.1 ok in
       ap (λ kd. repetition_by kd t (in_force_if u) rep) (proper.plain x.2)
 
-  bundles-sound : (r : ts.Request) (b' : Option ts.Bundle) (c : Course) → ts.Bundles su t k b r b' → Linked u r → Matches su p r c → BundledAlike (t + 1) b' (after c)
-  bundles-sound r b' c (ts.new_bundle pdu m3 g a) link e = subst (λ c. BundledAlike (t + 1) b' (after c)) (sym e) (started g a link)
-  bundles-sound r b' c (ts.adaptive_bundle g a) link e = subst (λ c. BundledAlike (t + 1) b' (after c)) (sym e) (started g a link)
-  bundles-sound r b' c (ts.synchronous_new pdu m3 g s) link e = subst (λ c. BundledAlike (t + 1) b (after c)) (sym e) (stays _ (by-synchronous su.kind (in_force_if u) s))
-  bundles-sound r b' c (ts.synchronous_adaptive g s) link e = subst (λ c. BundledAlike (t + 1) b (after c)) (sym e) (stays _ (by-synchronous su.kind (in_force_if u) s))
-  bundles-sound r b' c ts.within_bundle link e = subst (λ c. BundledAlike (t + 1) b (after c)) (sym e) (stays _ (again_kept link))
-  bundles-sound r b' c ts.no_bundle link e = subst (λ c. BundledAlike (t + 1) b (after c)) (sym e.1) (stays rep refl)
+  bundles_sound : (r : ts.Request) (b' : Option ts.Bundle) (c : Course) → ts.Bundles su t k b r b' → Linked u r → Matches su p r c → BundledAlike (t + 1) b' (after c)
+  bundles_sound r b' c (ts.new_bundle pdu m3 g a) link e = subst (λ c. BundledAlike (t + 1) b' (after c)) (sym e) (started g a link)
+  bundles_sound r b' c (ts.adaptive_bundle g a) link e = subst (λ c. BundledAlike (t + 1) b' (after c)) (sym e) (started g a link)
+  bundles_sound r b' c (ts.synchronous_new pdu m3 g s) link e = subst (λ c. BundledAlike (t + 1) b (after c)) (sym e) (stays _ (by_synchronous su.kind (in_force_if u) s))
+  bundles_sound r b' c (ts.synchronous_adaptive g s) link e = subst (λ c. BundledAlike (t + 1) b (after c)) (sym e) (stays _ (by_synchronous su.kind (in_force_if u) s))
+  bundles_sound r b' c ts.within_bundle link e = subst (λ c. BundledAlike (t + 1) b (after c)) (sym e) (stays _ (again_kept link))
+  bundles_sound r b' c ts.no_bundle link e = subst (λ c. BundledAlike (t + 1) b (after c)) (sym e.1) (stays rep refl)
 
 -- What a write for process k leaves elsewhere.
 abbrev ShortCourse : Course → Type 0
@@ -173,14 +173,14 @@ short_course su p ts.non_adaptive_retransmission c e s = subst ShortCourse (sym 
 short_course su p ts.no_request c e s = subst ShortCourse (sym e.1) tt
 
 module _ (m : List ℕ) (k : ℕ) (whole : length m ≡ 5805) (klt : k < 8) where
-  held-elsewhere : (c : Course) → ShortCourse c → (j : ℕ) → (j ≡ k → ⊥) → (o : Option ℕ) → unwrap_or o 1 ≤ 645 → held_in m j o ≡ held_in (memory_after m k c) j o
-  held-elsewhere c s j ne None le = refl
-  held-elsewhere (rests x p) s j ne (Some n) le = refl
-  held-elsewhere (again p a) s j ne (Some n) le = refl
-  held-elsewhere (begins g f p) s j ne (Some n) le = ap Some (sym (part-other m k f.packet whole (omega arith) s j n le ne))
+  held_elsewhere : (c : Course) → ShortCourse c → (j : ℕ) → (j ≡ k → ⊥) → (o : Option ℕ) → unwrap_or o 1 ≤ 645 → held_in m j o ≡ held_in (memory_after m k c) j o
+  held_elsewhere c s j ne None le = refl
+  held_elsewhere (rests x p) s j ne (Some n) le = refl
+  held_elsewhere (again p a) s j ne (Some n) le = refl
+  held_elsewhere (begins g f p) s j ne (Some n) le = ap Some (sym (part_other m k f.packet whole (omega arith) s j n le ne))
 
-  like-elsewhere : (su : Setup) (t : ℕ) (c : Course) (j : ℕ) (h : ts.HarqProcess) (p : Process) → ShortCourse c → (j ≡ k → ⊥) → unwrap_or p.buffer 1 ≤ 645 → Like su t m j h p → Like su t (memory_after m k c) j h p
-  like-elsewhere su t c j h p s ne le like = record { buffer = like.buffer ∙ held-elsewhere c s j ne p.buffer le; from_msg3 = like.from_msg3; count = like.count; feedback = like.feedback; index = like.index; mcs = like.mcs; resource = like.resource; compared = like.compared; due = like.due; resting = like.resting }
+  like_elsewhere : (su : Setup) (t : ℕ) (c : Course) (j : ℕ) (h : ts.HarqProcess) (p : Process) → ShortCourse c → (j ≡ k → ⊥) → unwrap_or p.buffer 1 ≤ 645 → Like su t m j h p → Like su t (memory_after m k c) j h p
+  like_elsewhere su t c j h p s ne le like = record { buffer = like.buffer ∙ held_elsewhere c s j ne p.buffer le; from_msg3 = like.from_msg3; count = like.count; feedback = like.feedback; index = like.index; mcs = like.mcs; resource = like.resource; compared = like.compared; due = like.due; resting = like.resting }
 
 heard_eight : (o : Option ℕ) (gap : Bool) (a : Option Feedback) (ps : List Process) → length ps ≡ 8 → length (heard_at o gap a ps) ≡ 8
 heard_eight None gap a ps e = e
@@ -223,29 +223,29 @@ module _ (su : Setup) (w : World) (mac : ts.MAC) (alike : Alike su mac w) (b : B
   sound₂ = sound_stored su (heard su st gap b.answer) t b.grant (sound_heard su st gap b.answer alike.sound) asked.fields
 
   -- a subframe by what its turn came to
-  abbrev world-by : Done → World
-  world-by d = record { state = d.state; memory = d.memory; count = count_after d.sending w.count }
+  abbrev world_by : Done → World
+  world_by d = record { state = d.state; memory = d.memory; count = count_after d.sending w.count }
 
   abbrev Sent : Option Sending → ts.MAC → Done → Type 0
-  Sent x mac' d = (x ≡ d.sending) × Alike su mac' (world-by d)
+  Sent x mac' d = (x ≡ d.sending) × Alike su mac' (world_by d)
 
   module _ (fs : ℕ → Feedback) (routes : ts.Routes (TtiOf w b) mac.process fs) (u : Option ts.UplinkGrant) (c : Option ts.Configured) (delivers : ts.Delivers su t mac.configured b.grant u c) where
     likes : (j : ℕ) → j < 8 → Like su (t + 1) m j (ts.heard (mac.process j) (fs j)) (process_at ps j)
-    likes j lt = like-heard su t m st.processes j alike.eight lt (TtiOf w b) refl (mac.process j) (alike.like j lt) (fs j) (routes j)
+    likes j lt = like_heard su t m st.processes j alike.eight lt (TtiOf w b) refl (mac.process j) (alike.like j lt) (fs j) (routes j)
 
     delivered : Delivered su t st.configured b.grant u c
     delivered = delivers_sound su t st.configured mac.configured b.grant u c delivers alike.configured
 
     -- in the turn of the grant in force
-    in-turn : (x : Option Sending) (mac' : ts.MAC) (o : Option ℕ) → process_of su.kind t (in_force_if u) st.repetition ≡ o → Sent x mac' (turn_done su s₂ m gap offers (in_force_if u) o)
+    in_turn : (x : Option Sending) (mac' : ts.MAC) (o : Option ℕ) → process_of su.kind t (in_force_if u) st.repetition ≡ o → Sent x mac' (turn_done su s₂ m gap offers (in_force_if u) o)
         → Sent x mac' (subframe_done su st m (given w b))
-    in-turn x mac' o e done =
+    in_turn x mac' o e done =
         let D : Option GrantInForce → Option ℕ → Type 0 = λ y o. Sent x mac' (turn_done su s₂ m gap offers y o) in
         subst (λ y. D y (process_of su.kind t y st.repetition)) delivered.0 (subst (D (in_force_if u)) (sym e) done)
 
-    nobody-sound : ((k : ℕ) → ts.Identifies su t mac.bundle u k → ⊥) → Sent None (record { process = λ j. ts.heard (mac.process j) (fs j); configured = c; bundle = mac.bundle; Msg3 = mac.Msg3 }) (subframe_done su st m (given w b))
-    nobody-sound none =
-        in-turn None _ None (none_identified su t mac.bundle st.repetition u alike.bundle none)
+    nobody_sound : ((k : ℕ) → ts.Identifies su t mac.bundle u k → ⊥) → Sent None (record { process = λ j. ts.heard (mac.process j) (fs j); configured = c; bundle = mac.bundle; Msg3 = mac.Msg3 }) (subframe_done su st m (given w b))
+    nobody_sound none =
+        in_turn None _ None (none_identified su t mac.bundle st.repetition u alike.bundle none)
         (refl, record { sound = sound_moved su s₂ sound₂; eight = eight; like = likes; configured = delivered.1; bundle = alike_later t mac.bundle st.repetition alike.bundle; Msg3 = alike.Msg3 })
 
     module _ (k : ℕ) (here : process_of su.kind t (in_force_if u) st.repetition ≡ Some k) (v : Option ts.Received) (notes : ts.Notes (ts.heard (mac.process k) (fs k)) u v) where
@@ -259,7 +259,7 @@ module _ (su : Setup) (w : World) (mac : ts.MAC) (alike : Alike su mac w) (b : B
       p = referred (in_force_if u) (process_at ps k)
 
       like : Like su (t + 1) m k h p
-      like = notes-sound (likes k klt) u v notes
+      like = notes_sound (likes k klt) u v notes
 
       good : Good su p
       good = good_referred su (in_force_if u) (process_at ps k) (sound₂.good k klt)
@@ -273,36 +273,36 @@ module _ (su : Setup) (w : World) (mac : ts.MAC) (alike : Alike su mac w) (b : B
       named : NamedBelow su.kind (in_force_if u)
       named = subst (NamedBelow su.kind) (sym delivered.0) (named_in_force su t st.configured b.grant asked.fields)
 
-      good-after : Good su (concluded su k gap (work_of turn)).process
-      good-after = good_concluded su k gap (work_of turn) (loaded_work su (decided su (in_force_if u) p) st.msg3 m offers p sound₂.bounds good (sane su (in_force_if u) p sized) (obtains m st.msg3 b.offers whole alike.sound.shortest alike.sound.longest (decided su (in_force_if u) p)))
+      good_after : Good su (concluded su k gap (work_of turn)).process
+      good_after = good_concluded su k gap (work_of turn) (loaded_work su (decided su (in_force_if u) p) st.msg3 m offers p sound₂.bounds good (sane su (in_force_if u) p sized) (obtains m st.msg3 b.offers whole alike.sound.shortest alike.sound.longest (decided su (in_force_if u) p)))
 
       module _ (r : ts.Request) (requests : ts.Requests su mac.Msg3 offers h u r) where
         matches : Matches su p r turn
-        matches = requests-sound like mac.Msg3 st.msg3 alike.Msg3 offers u r requests
+        matches = requests_sound like mac.Msg3 st.msg3 alike.Msg3 offers u r requests
 
-        short-request : Short r
-        short-request = short su mac.Msg3 offers h (λ x e. Msg3Sized m st.msg3 x whole alike.sound.shortest alike.sound.longest (sym alike.Msg3 ∙ e)) (fitting_sized b.offers) u r requests
+        short_request : Short r
+        short_request = short su mac.Msg3 offers h (λ x e. Msg3Sized m st.msg3 x whole alike.sound.shortest alike.sound.longest (sym alike.Msg3 ∙ e)) (fitting_sized b.offers) u r requests
 
-        short-turn : ShortCourse turn
-        short-turn = short_course su p r turn matches short-request
+        short_turn : ShortCourse turn
+        short_turn = short_course su p r turn matches short_request
 
-        process-sound : (x : Option Sending) (h' : ts.HarqProcess) (b' : Option ts.Bundle) → ts.CarriesOut su t k gap h r x h' → ts.Bundles su t k mac.bundle r b'
+        process_sound : (x : Option Sending) (h' : ts.HarqProcess) (b' : Option ts.Bundle) → ts.CarriesOut su t k gap h r x h' → ts.Bundles su t k mac.bundle r b'
             → Sent x (record { process = ts.put k h' (λ j. ts.heard (mac.process j) (fs j)); configured = c; bundle = b'; Msg3 = mac.Msg3 }) (subframe_done su st m (given w b))
-        process-sound x h' b' carries bundles =
-            in-turn x _ (Some k) here (
+        process_sound x h' b' carries bundles =
+            in_turn x _ (Some k) here (
               carried.0,
               record {
-                sound = sound_finished su s₂ k _ (concluded su k gap (work_of turn)) sound₂ good-after (repeated_after su.kind t (in_force_if u) (work_of turn) st.repetition named sound₂.repeats);
+                sound = sound_finished su s₂ k _ (concluded su k gap (work_of turn)) sound₂ good_after (repeated_after su.kind t (in_force_if u) (work_of turn) st.repetition named sound₂.repeats);
                 eight = length-set ps k _ ∙ eight;
                 like = each;
                 configured = delivered.1;
-                bundle = bundles-sound su t k mac.bundle st.repetition u p alike.bundle here (proper u c delivers) r b' turn bundles (linked su mac.Msg3 offers h u r requests) matches;
-                Msg3 = alike.Msg3 ∙ held-elsewhere m k whole klt turn short-turn 8 (λ e. absurd (let lt = klt in omega arith)) st.msg3 alike.sound.longest;
+                bundle = bundles_sound su t k mac.bundle st.repetition u p alike.bundle here (proper u c delivers) r b' turn bundles (linked su mac.Msg3 offers h u r requests) matches;
+                Msg3 = alike.Msg3 ∙ held_elsewhere m k whole klt turn short_turn 8 (λ e. absurd (let lt = klt in omega arith)) st.msg3 alike.sound.longest;
               },
             )
           where
             carried : Carried su t m k gap whole klt (owns su t (in_force_if u) st.repetition k here) sound₂.bounds h p like good.index turn x h'
-            carried = carries-sound su t m k gap whole klt (owns su t (in_force_if u) st.repetition k here) sound₂.bounds h p like good.index r x h' turn carries matches short-request
+            carried = carries_sound su t m k gap whole klt (owns su t (in_force_if u) st.repetition k here) sound₂.bounds h p like good.index r x h' turn carries matches short_request
 
             q : Process
             q = (concluded su k gap (work_of turn)).process
@@ -319,9 +319,9 @@ module _ (su : Setup) (w : World) (mac : ts.MAC) (alike : Alike su mac w) (b : B
                 split (inr ne) =
                     subst (λ y. Like su (t + 1) (memory_after m k turn) j y (process_at (set ps k q) j)) (sym (ap (λ z. cond z h' (ts.heard (mac.process j) (fs j))) (ne_eqb j k ne)))
                     (subst (Like su (t + 1) (memory_after m k turn) j (ts.heard (mac.process j) (fs j))) (sym (get_or-set_other ps k j q idle ne))
-                    (like-elsewhere m k whole klt su (t + 1) turn j (ts.heard (mac.process j) (fs j)) (process_at ps j) short-turn ne (sound₂.good j lt).not_long (likes j lt)))
+                    (like_elsewhere m k whole klt su (t + 1) turn j (ts.heard (mac.process j) (fs j)) (process_at ps j) short_turn ne (sound₂.good j lt).not_long (likes j lt)))
 
-  pub performs-sound : (x : Option Sending) (mac' : ts.MAC) → ts.Performs su mac (TtiOf w b) x mac' → Sent x mac' (subframe_done su st m (given w b))
-  performs-sound x mac' (ts.in_process fs u c k v r x₁ h' b' routes delivers identifies notes requests carries bundles) =
-      process-sound fs routes u c delivers k (identifies_sound su t mac.bundle st.repetition u k identifies alike.bundle (proper u c delivers)) v notes r requests x h' b' carries bundles
-  performs-sound x mac' (ts.in_no_process fs u c routes delivers none) = nobody-sound fs routes u c delivers none
+  pub performs_sound : (x : Option Sending) (mac' : ts.MAC) → ts.Performs su mac (TtiOf w b) x mac' → Sent x mac' (subframe_done su st m (given w b))
+  performs_sound x mac' (ts.in_process fs u c k v r x₁ h' b' routes delivers identifies notes requests carries bundles) =
+      process_sound fs routes u c delivers k (identifies_sound su t mac.bundle st.repetition u k identifies alike.bundle (proper u c delivers)) v notes r requests x h' b' carries bundles
+  performs_sound x mac' (ts.in_no_process fs u c routes delivers none) = nobody_sound fs routes u c delivers none

@@ -21,23 +21,23 @@ Decided A = A ⊎ (A → ⊥)
 
 -- Feedback.
 hears_total : (i : ts.TTI) (h : ts.HarqProcess) → (f : Feedback) × ts.Hears i h f
-hears_total i h = at-time h.feedback_time refl
+hears_total i h = at_time h.feedback_time refl
   where
     with_none : h.feedback_time ≡ Some i.time → i.gap ≡ false → (a : Option Feedback) → i.feedback ≡ a → (f : Feedback) × ts.Hears i h f
     with_none e g None q = (h.HARQ_FEEDBACK, ts.no_feedback e g q)
     with_none e g (Some f) q = (f, ts.feedback_received f e g q)
 
-    by-gap : h.feedback_time ≡ Some i.time → (g : Bool) → i.gap ≡ g → (m : Bool) → h.from_msg3 ≡ m → (f : Feedback) × ts.Hears i h f
-    by-gap e false g m q = with_none e g i.feedback refl
-    by-gap e true g true q = (h.HARQ_FEEDBACK, ts.gap_at_msg3_feedback e g q)
-    by-gap e true g false q = (Ack, ts.gap_at_feedback e g q)
+    by_gap : h.feedback_time ≡ Some i.time → (g : Bool) → i.gap ≡ g → (m : Bool) → h.from_msg3 ≡ m → (f : Feedback) × ts.Hears i h f
+    by_gap e false g m q = with_none e g i.feedback refl
+    by_gap e true g true q = (h.HARQ_FEEDBACK, ts.gap_at_msg3_feedback e g q)
+    by_gap e true g false q = (Ack, ts.gap_at_feedback e g q)
 
-    at-time : (o : Option ℕ) → h.feedback_time ≡ o → (f : Feedback) × ts.Hears i h f
-    at-time None e = (h.HARQ_FEEDBACK, ts.other_time (λ q. none_some (sym e ∙ q)))
-    at-time (Some u) e = by (cases_eq u i.time)
+    at_time : (o : Option ℕ) → h.feedback_time ≡ o → (f : Feedback) × ts.Hears i h f
+    at_time None e = (h.HARQ_FEEDBACK, ts.other_time (λ q. none_some (sym e ∙ q)))
+    at_time (Some u) e = by (cases_eq u i.time)
       where
         by : (u ≡ i.time) ⊎ (u ≡ i.time → ⊥) → (f : Feedback) × ts.Hears i h f
-        by (inl s) = by-gap (e ∙ ap Some s) i.gap refl h.from_msg3 refl
+        by (inl s) = by_gap (e ∙ ap Some s) i.gap refl h.from_msg3 refl
         by (inr ne) = (h.HARQ_FEEDBACK, ts.other_time (λ q. ne (some_inj (sym e ∙ q))))
 
 -- Grant reception, where the fields of a grant hold.
@@ -101,19 +101,19 @@ other_received x y = x ≡ y → ⊥
 toggled_or_not : (h : ts.HarqProcess) (g : ts.UplinkGrant) → g.received ≡ ts.for_c_rnti → Decided (ts.Toggled h g)
 toggled_or_not h g e = by h.previous_ndi refl h.previous_grant refl
   where
-    same-value : (n : ℕ) → h.previous_ndi ≡ Some n → n ≡ g.NDI → (h.previous_grant ≡ Some ts.for_sps_c_rnti → ⊥) → (h.previous_grant ≡ Some ts.configured → ⊥) → (h.previous_grant ≡ Some ts.in_random_access_response → ⊥) → ts.Toggled h g → ⊥
-    same-value n q s a b c (ts.by_configuration z) = let w : ◌≡◌ {A = ℕ} 0 1 = cc in omega arith
-    same-value n q s a b c (ts.after_sps z v) = a v
-    same-value n q s a b c (ts.after_configured z v) = b v
-    same-value n q s a b c (ts.after_random_access_response z v) = c v
-    same-value n q s a b c (ts.by_value m z v ne) = ne (some_inj (sym v ∙ q) ∙ s)
-    same-value n q s a b c (ts.at_first z v) = none_some (sym v ∙ q)
+    same_value : (n : ℕ) → h.previous_ndi ≡ Some n → n ≡ g.NDI → (h.previous_grant ≡ Some ts.for_sps_c_rnti → ⊥) → (h.previous_grant ≡ Some ts.configured → ⊥) → (h.previous_grant ≡ Some ts.in_random_access_response → ⊥) → ts.Toggled h g → ⊥
+    same_value n q s a b c (ts.by_configuration z) = let w : ◌≡◌ {A = ℕ} 0 1 = cc in omega arith
+    same_value n q s a b c (ts.after_sps z v) = a v
+    same_value n q s a b c (ts.after_configured z v) = b v
+    same_value n q s a b c (ts.after_random_access_response z v) = c v
+    same_value n q s a b c (ts.by_value m z v ne) = ne (some_inj (sym v ∙ q) ∙ s)
+    same_value n q s a b c (ts.at_first z v) = none_some (sym v ∙ q)
 
     value : (n : ℕ) → h.previous_ndi ≡ Some n → (h.previous_grant ≡ Some ts.for_sps_c_rnti → ⊥) → (h.previous_grant ≡ Some ts.configured → ⊥) → (h.previous_grant ≡ Some ts.in_random_access_response → ⊥) → Decided (ts.Toggled h g)
     value n q a b c = go (cases_eq n g.NDI)
       where
         go : (n ≡ g.NDI) ⊎ (n ≡ g.NDI → ⊥) → Decided (ts.Toggled h g)
-        go (inl s) = inr (same-value n q s a b c)
+        go (inl s) = inr (same_value n q s a b c)
         go (inr ne) = inl (ts.by_value n e q ne)
 
     by : (n : Option ℕ) → h.previous_ndi ≡ n → (v : Option ts.Received) → h.previous_grant ≡ v → Decided (ts.Toggled h g)
@@ -142,9 +142,9 @@ new_or_not h g = by g.received refl
     never a b c (ts.empty_buffer z v) = a z
     never a b c (ts.random_access z) = c z
 
-    on-C-RNTI : g.received ≡ ts.for_c_rnti → (o : Option (List ℕ)) → h.buffer ≡ o → Decided (ts.New h g)
-    on-C-RNTI e None q = inl (ts.empty_buffer e q)
-    on-C-RNTI e (Some pdu) q = go (toggled_or_not h g e)
+    on_c_rnti : g.received ≡ ts.for_c_rnti → (o : Option (List ℕ)) → h.buffer ≡ o → Decided (ts.New h g)
+    on_c_rnti e None q = inl (ts.empty_buffer e q)
+    on_c_rnti e (Some pdu) q = go (toggled_or_not h g e)
       where
         not_new : (ts.Toggled h g → ⊥) → ts.New h g → ⊥
         not_new n (ts.toggled z v) = n v
@@ -156,7 +156,7 @@ new_or_not h g = by g.received refl
         go (inr n) = inr (not_new n)
 
     by : (x : ts.Received) → g.received ≡ x → Decided (ts.New h g)
-    by ts.for_c_rnti e = on-C-RNTI e h.buffer refl
+    by ts.for_c_rnti e = on_c_rnti e h.buffer refl
     by ts.for_temporary_c_rnti e = inr (never (λ z. let w : ◌≡◌ {A = ℕ} 0 1 = cc in omega arith) (λ z. let w : ◌≡◌ {A = ℕ} 0 1 = cc in omega arith) (λ z. let w : ◌≡◌ {A = ℕ} 0 1 = cc in omega arith))
     by ts.for_sps_c_rnti e = inr (never (λ z. let w : ◌≡◌ {A = ℕ} 0 1 = cc in omega arith) (λ z. let w : ◌≡◌ {A = ℕ} 0 1 = cc in omega arith) (λ z. let w : ◌≡◌ {A = ℕ} 0 1 = cc in omega arith))
     by ts.in_random_access_response e = inl (ts.random_access e)
@@ -226,17 +226,17 @@ requests_total su Msg3 assembly h None ok = by h.buffer refl
     by (Some pdu) e = (ts.non_adaptive_retransmission, ts.non_adaptive pdu e, (pdu, e))
 requests_total su Msg3 assembly h (Some g) ok = by (new_or_not h g)
   where
-    from-assembly : ts.New h g → ((pdu : List ℕ) → ts.FromMsg3 Msg3 g pdu → ⊥) → (ts.Kept su h g → ⊥) → (o : Option (List ℕ)) → assembly g.size ≡ o → Requested su Msg3 assembly h (Some g)
-    from-assembly new none spared None e = (ts.no_request, ts.none_obtained g new none spared e, tt)
-    from-assembly new none spared (Some pdu) e = (ts.new_transmission pdu false g, ts.assembled_transmission g pdu new none spared e, ok.version)
+    from_assembly : ts.New h g → ((pdu : List ℕ) → ts.FromMsg3 Msg3 g pdu → ⊥) → (ts.Kept su h g → ⊥) → (o : Option (List ℕ)) → assembly g.size ≡ o → Requested su Msg3 assembly h (Some g)
+    from_assembly new none spared None e = (ts.no_request, ts.none_obtained g new none spared e, tt)
+    from_assembly new none spared (Some pdu) e = (ts.new_transmission pdu false g, ts.assembled_transmission g pdu new none spared e, ok.version)
 
-    not-from-Msg3 : ts.New h g → ((pdu : List ℕ) → ts.FromMsg3 Msg3 g pdu → ⊥) → Decided (ts.Kept su h g) → Requested su Msg3 assembly h (Some g)
-    not-from-Msg3 new none (inl (ts.kept pdu lt e has f)) = (ts.non_adaptive_retransmission, ts.kept_for_retransmission g new none (ts.kept pdu lt e has f), (pdu, has))
-    not-from-Msg3 new none (inr spared) = from-assembly new none spared (assembly g.size) refl
+    not_from_msg3 : ts.New h g → ((pdu : List ℕ) → ts.FromMsg3 Msg3 g pdu → ⊥) → Decided (ts.Kept su h g) → Requested su Msg3 assembly h (Some g)
+    not_from_msg3 new none (inl (ts.kept pdu lt e has f)) = (ts.non_adaptive_retransmission, ts.kept_for_retransmission g new none (ts.kept pdu lt e has f), (pdu, has))
+    not_from_msg3 new none (inr spared) = from_assembly new none spared (assembly g.size) refl
 
     anew : ts.New h g → ((pdu : List ℕ) × ts.FromMsg3 Msg3 g pdu) ⊎ ((pdu : List ℕ) → ts.FromMsg3 Msg3 g pdu → ⊥) → Requested su Msg3 assembly h (Some g)
     anew new (inl x) = (ts.new_transmission x.0 true g, ts.Msg3Transmission g x.0 new x.1, ok.version)
-    anew new (inr none) = not-from-Msg3 new none (kept_or_not su h g)
+    anew new (inr none) = not_from_msg3 new none (kept_or_not su h g)
 
     again : (ts.New h g → ⊥) → (o : Option (List ℕ)) → h.buffer ≡ o → Requested su Msg3 assembly h (Some g)
     again new None e = (ts.no_request, ts.empty_retransmission g new e, tt)
@@ -267,8 +267,8 @@ version_total n le = by (cases_lt 28 n)
     by (inr low) = (0, ts.up_to_28 n low, omega arith)
     by (inl high) = at (n - 29) (omega arith)
 
-used-total : (before n : ℕ) → (s : ℕ) × ts.McsUsed before n s
-used-total before n = by (cases_lt 28 n)
+used_total : (before n : ℕ) → (s : ℕ) × ts.McsUsed before n s
+used_total before n = by (cases_lt 28 n)
   where
     by : (28 < n) ⊎ (n ≤ 28) → (s : ℕ) × ts.McsUsed before n s
     by (inl high) = (before, ts.not_provided n high)
@@ -322,8 +322,8 @@ module _ (su : Setup) (t k : ℕ) (gap : Bool) (h : ts.HarqProcess) where
       let f = flushes_total su g.1 in
       (g.0, f.0, ts.generated r h₁ g.1 f.0 g.0 pr g.2 f.1)
 
-  new-out : (pdu : List ℕ) (m3 : Bool) (g : ts.UplinkGrant) → (su.kind ≡ Asynchronous → g.redundancy_version ≤ 3) → CarriedOut su t k gap h (ts.new_transmission pdu m3 g)
-  new-out pdu m3 g ver = by (which su.kind)
+  new_out : (pdu : List ℕ) (m3 : Bool) (g : ts.UplinkGrant) → (su.kind ≡ Asynchronous → g.redundancy_version ≤ 3) → CarriedOut su t k gap h (ts.new_transmission pdu m3 g)
+  new_out pdu m3 g ver = by (which su.kind)
     where
       c : (n : Option ℕ) × (r : Option ts.Received) × ts.Compared h g n r
       c = compared_total h g
@@ -332,14 +332,14 @@ module _ (su : Setup) (t k : ℕ) (gap : Bool) (h : ts.HarqProcess) where
       by (inl s) = goes_on (ts.new_transmission pdu m3 g) _ pdu (ts.new_synchronous pdu m3 g c.0 c.1 s c.2) refl
       by (inr a) = let i = index_total g.redundancy_version (ver a) in goes_on (ts.new_transmission pdu m3 g) _ pdu (ts.new_asynchronous pdu m3 g c.0 c.1 i.0 a c.2 i.1) refl
 
-  adaptive-out : (g : ts.UplinkGrant) (pdu : List ℕ) → h.buffer ≡ Some pdu → (su.kind ≡ Asynchronous → g.redundancy_version ≤ 3) → g.MCS ≤ 31 → CarriedOut su t k gap h (ts.adaptive_retransmission g)
-  adaptive-out g pdu has ver le = by (which su.kind)
+  adaptive_out : (g : ts.UplinkGrant) (pdu : List ℕ) → h.buffer ≡ Some pdu → (su.kind ≡ Asynchronous → g.redundancy_version ≤ 3) → g.MCS ≤ 31 → CarriedOut su t k gap h (ts.adaptive_retransmission g)
+  adaptive_out g pdu has ver le = by (which su.kind)
     where
       c : (n : Option ℕ) × (r : Option ts.Received) × ts.Compared h g n r
       c = compared_total h g
 
       s : (n : ℕ) × ts.McsUsed h.MCS g.MCS n
-      s = used-total h.MCS g.MCS
+      s = used_total h.MCS g.MCS
 
       by : ts.Synchronous su.kind ⊎ (su.kind ≡ Asynchronous) → CarriedOut su t k gap h (ts.adaptive_retransmission g)
       by (inl sy) =
@@ -348,8 +348,8 @@ module _ (su : Setup) (t k : ℕ) (gap : Bool) (h : ts.HarqProcess) where
           goes_on (ts.adaptive_retransmission g) _ pdu (ts.adaptive_synchronous g c.0 c.1 v.0 i.0 s.0 sy c.2 v.1 i.1 s.1) has
       by (inr a) = let i = index_total g.redundancy_version (ver a) in goes_on (ts.adaptive_retransmission g) _ pdu (ts.adaptive_asynchronous g c.0 c.1 i.0 s.0 a c.2 i.1 s.1) has
 
-  again-out : (pdu : List ℕ) → h.buffer ≡ Some pdu → CarriedOut su t k gap h ts.non_adaptive_retransmission
-  again-out pdu has = by (which su.kind) h.HARQ_FEEDBACK refl
+  again_out : (pdu : List ℕ) → h.buffer ≡ Some pdu → CarriedOut su t k gap h ts.non_adaptive_retransmission
+  again_out pdu has = by (which su.kind) h.HARQ_FEEDBACK refl
     where
       kept_back : ts.Synchronous su.kind → h.HARQ_FEEDBACK ≡ Ack → CarriedOut su t k gap h ts.non_adaptive_retransmission
       kept_back s e =
@@ -362,11 +362,11 @@ module _ (su : Setup) (t k : ℕ) (gap : Bool) (h : ts.HarqProcess) where
       by (inl s) Nack e = goes_on ts.non_adaptive_retransmission _ pdu (ts.non_adaptive_nack s e) has
       by (inl s) Ack e = kept_back s e
 
-  carries-total : (r : ts.Request) → Feasible su h r → CarriedOut su t k gap h r
-  carries-total (ts.new_transmission pdu m3 g) f = new-out pdu m3 g f
-  carries-total (ts.adaptive_retransmission g) f = adaptive-out g f.0.0 f.0.1 f.1 f.2
-  carries-total ts.non_adaptive_retransmission f = again-out f.0 f.1
-  carries-total ts.no_request f = (None, h, ts.nothing)
+  carries_total : (r : ts.Request) → Feasible su h r → CarriedOut su t k gap h r
+  carries_total (ts.new_transmission pdu m3 g) f = new_out pdu m3 g f
+  carries_total (ts.adaptive_retransmission g) f = adaptive_out g f.0.0 f.0.1 f.1 f.2
+  carries_total ts.non_adaptive_retransmission f = again_out f.0 f.1
+  carries_total ts.no_request f = (None, h, ts.nothing)
 
 bundles_total : (su : Setup) (t k : ℕ) (b : Option ts.Bundle) (r : ts.Request) → (b' : Option ts.Bundle) × ts.Bundles su t k b r b'
 bundles_total su t k b (ts.new_transmission pdu m3 g) = by (which su.kind)
@@ -403,6 +403,6 @@ performs_total su mac i conf rep stored bundle known proper = go (identified su 
         let h : ts.HarqProcess = ts.heard (mac.process k) (fs k).0 in
         let n = notes_total h u in
         let q = requests_total su mac.Msg3 i.assembly (ts.noted h n.0) u (proper u d.1 d.2) in
-        let c = carries-total su i.time k i.gap (ts.noted h n.0) q.0 q.2 in
+        let c = carries_total su i.time k i.gap (ts.noted h n.0) q.0 q.2 in
         let b = bundles_total su i.time k mac.bundle q.0 in
         (c.0, _, ts.in_process (λ j. (fs j).0) u d.1 k n.0 q.0 c.0 c.1 b.0 (λ j. (fs j).1) d.2 id.1 n.1 q.1 c.2 b.1)

@@ -1,5 +1,6 @@
 // The vocabulary: every type that two parts of the library share.
 #![tactic(auto)]
+
 pub mod answer;
 pub mod decision;
 pub mod grant;

@@ -1,5 +1,6 @@
 // A trace goes in, and the answers of the cell come out.
 #![tactic(auto)]
+
 pub mod answer;
 mod session;
 mod text;

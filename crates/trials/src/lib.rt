@@ -1,5 +1,6 @@
 // Runs of the library against answers that were worked out without it.
 #![tactic(auto)]
+
 #[cfg(test)]
 mod calls;
 #[cfg(test)]

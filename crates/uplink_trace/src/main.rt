@@ -1,5 +1,6 @@
 // Reads a trace of an uplink cell on standard input, and writes the cell's answers to standard output.
 #![tactic(auto)]
+
 ghost use Rattle.std.specs.Prelude.{◌≤◌, length, IfOk};
 
 use std::io;

@@ -2,9 +2,9 @@ use Rattle.std.proofs.Common.{◌≡◌, length, Some, None, Err, sym, refl, ◌
 use Rattle.std.proofs.lemmas.Result.{err_from_is_err_and}
 use Rattle.ports.specs.Radio.{has_room}
 use Rattle.rules.specs.Entity.{process_of}
-use Rattle.cell.proofs.Calling.{sound_cell, accepted_cell, sound-idle, prepared, fits-done, done-whole, asked_of}
-use Rattle.cell.proofs.Following.{subframe-standard}
-use Rattle.cell.proofs.Promising.{subframe-keeps, subframe-latest, refused-whole, refused-keeps, refused-latest}
+use Rattle.cell.proofs.Calling.{sound_cell, accepted_cell, sound_idle, prepared, fits_done, done_whole, asked_of}
+use Rattle.cell.proofs.Following.{subframe_standard}
+use Rattle.cell.proofs.Promising.{subframe_keeps, subframe_latest, refused_whole, refused_keeps, refused_latest}
 use Rattle.cell.proofs.cell.Cell.subframe.Goals as goal
 
 pub turn-requires : goal.turn-requires
@@ -17,7 +17,7 @@ turn-requires g c =
 pub invariant-of-self : goal.invariant-of-self
 invariant-of-self g c =
     let eo : None ≡ process_of c.args.self.now.setup.kind c.args.self.now.state.clock c.force-g.result c.take_answer.new.state.repetition = search rules in
-    let z = sound-idle c.args.self.now.setup c.args.self.now.state c.args.memory.now c.covers-gap.result c.args.answer c.args.grant c.take_answer.new.state c.force-g.result c.store-self.result None
+    let z = sound_idle c.args.self.now.setup c.args.self.now.state c.args.memory.now c.covers-gap.result c.args.answer c.args.grant c.take_answer.new.state c.force-g.result c.store-self.result None
     c.take_answer.ensures c.force-g.ensures c.store-self.ensures eo c.ready.result c.in_ok-ask.ensures (sound_cell c.args.self.now) in (
       c.args.self.now.accepted,
       (
@@ -69,10 +69,10 @@ returns-in_err-ask g c =
     let e = c.in_err-ask.field-0.0 in
     let no = asked_of su st (length m) c.ready.result (has_room r) c.covers-gap.result (plan st.clock) c.args.answer c.args.grant (Err e) c.ready.ensures c.covers-gap.ensures c.in_err-ask.ensures in
     rw (p.1, p.2) (record {
-      whole = refused-whole o u su st m r c.args.source.now plan c.args.answer c.args.grant (accepted_cell c.args.self.now) e no;
+      whole = refused_whole o u su st m r c.args.source.now plan c.args.answer c.args.grant (accepted_cell c.args.self.now) e no;
       setup = refl;
-      promise = refused-keeps o u su st m r c.args.source.now plan c.args.answer c.args.grant (accepted_cell c.args.self.now) e no;
-      latest = refused-latest o u su st m r c.args.source.now plan c.args.answer c.args.grant (accepted_cell c.args.self.now) e no;
+      promise = refused_keeps o u su st m r c.args.source.now plan c.args.answer c.args.grant (accepted_cell c.args.self.now) e no;
+      latest = refused_latest o u su st m r c.args.source.now plan c.args.answer c.args.grant (accepted_cell c.args.self.now) e no;
       standard = refl;
       lender = refl;
     })
@@ -90,14 +90,14 @@ returns-in-default g c =
     let u = g.S.Source.used in
     let plan = g.G.GapPlan.covered c.args.gaps.now in
     let eo : None ≡ process_of su.kind st.clock f s1.repetition = search rules in
-    let fits = fits-done su st m c.covers-gap.result c.args.answer c.args.grant s1 f d None c.take_answer.ensures c.force-g.ensures c.store-self.ensures eo (has_room r) (plan st.clock) (o c.args.source.now) c.covers-gap.ensures tt in
-    let e = done-whole su st m c.covers-gap.result c.args.answer c.args.grant s1 f d None c.take_answer.ensures c.force-g.ensures c.store-self.ensures eo c.ready.result c.in_ok-ask.ensures o u r c.args.source.now _ (plan st.clock) c.ready.ensures c.covers-gap.ensures refl in
+    let fits = fits_done su st m c.covers-gap.result c.args.answer c.args.grant s1 f d None c.take_answer.ensures c.force-g.ensures c.store-self.ensures eo (has_room r) (plan st.clock) (o c.args.source.now) c.covers-gap.ensures tt in
+    let e = done_whole su st m c.covers-gap.result c.args.answer c.args.grant s1 f d None c.take_answer.ensures c.force-g.ensures c.store-self.ensures eo c.ready.result c.in_ok-ask.ensures o u r c.args.source.now _ (plan st.clock) c.ready.ensures c.covers-gap.ensures refl in
     record {
       whole = e;
       setup = refl;
-      promise = subframe-keeps o u su st m r c.args.source.now plan c.args.answer c.args.grant (accepted_cell c.args.self.now) fits _ e;
-      latest = subframe-latest o u su st m r c.args.source.now plan c.args.answer c.args.grant (accepted_cell c.args.self.now) fits _ e;
-      standard = subframe-standard o u su st m r c.args.source.now plan c.args.answer c.args.grant (accepted_cell c.args.self.now) fits _ e;
+      promise = subframe_keeps o u su st m r c.args.source.now plan c.args.answer c.args.grant (accepted_cell c.args.self.now) fits _ e;
+      latest = subframe_latest o u su st m r c.args.source.now plan c.args.answer c.args.grant (accepted_cell c.args.self.now) fits _ e;
+      standard = subframe_standard o u su st m r c.args.source.now plan c.args.answer c.args.grant (accepted_cell c.args.self.now) fits _ e;
       lender = refl;
     }
 
@@ -114,13 +114,13 @@ returns g c =
     let u = g.S.Source.used in
     let plan = g.G.GapPlan.covered c.args.gaps.now in
     let k = Some c.in-Some.k in
-    let fits = fits-done su st m c.covers-gap.result c.args.answer c.args.grant s1 f d k c.take_answer.ensures c.force-g.ensures c.store-self.ensures c.in-Some.ensures (has_room r) (plan st.clock) (o c.args.source.now) c.covers-gap.ensures c.turn.ensures.fits in
-    let e = done-whole su st m c.covers-gap.result c.args.answer c.args.grant s1 f d k c.take_answer.ensures c.force-g.ensures c.store-self.ensures c.in-Some.ensures c.ready.result c.in_ok-ask.ensures o u r c.args.source.now _ (plan st.clock) c.ready.ensures c.covers-gap.ensures c.turn.ensures.whole in
+    let fits = fits_done su st m c.covers-gap.result c.args.answer c.args.grant s1 f d k c.take_answer.ensures c.force-g.ensures c.store-self.ensures c.in-Some.ensures (has_room r) (plan st.clock) (o c.args.source.now) c.covers-gap.ensures c.turn.ensures.fits in
+    let e = done_whole su st m c.covers-gap.result c.args.answer c.args.grant s1 f d k c.take_answer.ensures c.force-g.ensures c.store-self.ensures c.in-Some.ensures c.ready.result c.in_ok-ask.ensures o u r c.args.source.now _ (plan st.clock) c.ready.ensures c.covers-gap.ensures c.turn.ensures.whole in
     record {
       whole = e;
       setup = refl;
-      promise = subframe-keeps o u su st m r c.args.source.now plan c.args.answer c.args.grant (accepted_cell c.args.self.now) fits _ e;
-      latest = subframe-latest o u su st m r c.args.source.now plan c.args.answer c.args.grant (accepted_cell c.args.self.now) fits _ e;
-      standard = subframe-standard o u su st m r c.args.source.now plan c.args.answer c.args.grant (accepted_cell c.args.self.now) fits _ e;
+      promise = subframe_keeps o u su st m r c.args.source.now plan c.args.answer c.args.grant (accepted_cell c.args.self.now) fits _ e;
+      latest = subframe_latest o u su st m r c.args.source.now plan c.args.answer c.args.grant (accepted_cell c.args.self.now) fits _ e;
+      standard = subframe_standard o u su st m r c.args.source.now plan c.args.answer c.args.grant (accepted_cell c.args.self.now) fits _ e;
       lender = c.turn.ensures.lender;
     }
