@@ -14,6 +14,8 @@ import subprocess
 import sys
 
 CRATES = {"hex": "hexadecimal"}
+# Two names that would fall together.
+APART = {"with-Msg3": "mac_with_msg3"}
 KIND = re.compile(r"^\s*(?:(?:abbrev|pub|unfoldable)\s+)*(?:record|data)\s+(\S+)")
 NAME = re.compile(r"^\s*(?:(?:abbrev|pub|unfoldable)\s+)*([^\s(){}]+)\s*:(?:\s+(\S+)|$)")
 TOKEN = re.compile(r"[^\s(){}\[\].,;«»\"`:]+")
@@ -45,6 +47,8 @@ def camel(name):
 
 
 def respelled(name):
+    if name in APART:
+        return APART[name]
     words = name.split("-")
     if name.isupper() and all(len(w) > 1 for w in words):
         return name.replace("-", "_")

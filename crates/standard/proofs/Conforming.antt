@@ -20,7 +20,7 @@ use Rattle.runs.proofs.Amends.{none_some}
 use Rattle.runs.proofs.Memory.{part_written, part_other}
 use Rattle.runs.proofs.Questions.{all_yes, within_low, within_high}
 use Rattle.standard.specs.Ts36321 as ts
-use Rattle.standard.specs.Conformance.{Happening, a_tti, Msg3Filled, Msg3Emptied, TtiOf, if_accepted, happenings, told_in, sent, with_msg3, Goes, at_rest, through_tti, with_msg3_filled, with_msg3_emptied, ByTheStandard, Reaches, HasItSend, SendsByTheStandard}
+use Rattle.standard.specs.Conformance.{Happening, a_tti, Msg3Filled, Msg3Emptied, TtiOf, if_accepted, happenings, told_in, sent, mac_with_msg3, Goes, at_rest, through_tti, with_msg3_filled, with_msg3_emptied, ByTheStandard, Reaches, HasItSend, SendsByTheStandard}
 use Rattle.standard.proofs.Likeness.{held_in, Like, Alike}
 use Rattle.standard.proofs.Performing.{performs_sound}
 use Rattle.standard.proofs.Totality.{performs_total}
@@ -44,7 +44,7 @@ established_alike p accepted = record {
 -- the Msg3 calls
 module _ (su : Setup) (mac : ts.MAC) (w : World) (alike : Alike su mac w) where
   pub filled_alike : (b : List ℕ) → length w.memory ≡ 5805 → 1 ≤ length b → length b ≤ 645
-      → Alike su (with_msg3 mac (Some b)) (record { state = with_msg3 w.state (Some (length b)); memory = written w.memory 8 b; count = w.count })
+      → Alike su (mac_with_msg3 mac (Some b)) (record { state = with_msg3 w.state (Some (length b)); memory = written w.memory 8 b; count = w.count })
   filled_alike b whole lo hi = record {
     sound = record { bounds = alike.sound.bounds; packets = alike.sound.packets; sendings = alike.sound.sendings; smallest = alike.sound.smallest; largest = alike.sound.largest; shortest = lo; longest = hi; repeats = alike.sound.repeats; good = alike.sound.good };
     eight = alike.eight;
@@ -64,7 +64,7 @@ module _ (su : Setup) (mac : ts.MAC) (w : World) (alike : Alike su mac w) where
       kept : (k : ℕ) → k < 8 → Like su w.state.clock w.memory k (mac.process k) (process_at w.state.processes k) → Like su w.state.clock (written w.memory 8 b) k (mac.process k) (process_at w.state.processes k)
       kept k lt l = record { buffer = l.buffer ∙ buffers k lt (process_at w.state.processes k).buffer refl; from_msg3 = l.from_msg3; count = l.count; feedback = l.feedback; index = l.index; mcs = l.mcs; resource = l.resource; compared = l.compared; due = l.due; resting = l.resting }
 
-  pub emptied_alike : Alike su (with_msg3 mac None) (record { state = with_msg3 w.state None; memory = w.memory; count = w.count })
+  pub emptied_alike : Alike su (mac_with_msg3 mac None) (record { state = with_msg3 w.state None; memory = w.memory; count = w.count })
   emptied_alike = record {
     sound = record { bounds = alike.sound.bounds; packets = alike.sound.packets; sendings = alike.sound.sendings; smallest = alike.sound.smallest; largest = alike.sound.largest; shortest = omega arith; longest = omega arith; repeats = alike.sound.repeats; good = alike.sound.good };
     eight = alike.eight;
@@ -111,10 +111,10 @@ module _ (su : Setup) (accepted : Accepted su) where
       → (x : Option Sending) × (m₁ : ts.MAC) × (ys : List (Option Sending)) × (xs ≡ x ∷ ys) × ts.Performs su mac i x m₁ × Goes su m₁ hs ys mac'
   TtiOnly mac mac' i hs xs (through_tti m m₁ m₂ i₁ x hs₁ ys pf go) = (x, m₁, ys, refl, pf, go)
 
-  filled_only : (mac mac' : ts.MAC) (b : List ℕ) (hs : List Happening) (xs : List (Option Sending)) → Goes su mac (Msg3Filled b ∷ hs) xs mac' → Goes su (with_msg3 mac (Some b)) hs xs mac'
+  filled_only : (mac mac' : ts.MAC) (b : List ℕ) (hs : List Happening) (xs : List (Option Sending)) → Goes su mac (Msg3Filled b ∷ hs) xs mac' → Goes su (mac_with_msg3 mac (Some b)) hs xs mac'
   filled_only mac mac' b hs xs (with_msg3_filled m m₂ b₁ hs₁ ys go) = go
 
-  emptied_only : (mac mac' : ts.MAC) (hs : List Happening) (xs : List (Option Sending)) → Goes su mac (Msg3Emptied ∷ hs) xs mac' → Goes su (with_msg3 mac None) hs xs mac'
+  emptied_only : (mac mac' : ts.MAC) (hs : List Happening) (xs : List (Option Sending)) → Goes su mac (Msg3Emptied ∷ hs) xs mac' → Goes su (mac_with_msg3 mac None) hs xs mac'
   emptied_only mac mac' hs xs (with_msg3_emptied m m₂ hs₁ ys go) = go
 
   -- a call, and then the others
@@ -155,7 +155,7 @@ module _ (su : Setup) (accepted : Accepted su) where
       go (Err e) z xs mac' goes = others w mac alike xs mac' goes
       go (Ok u) z xs mac' goes =
           let ys = all_yes qs z in
-          others _ (with_msg3 mac (Some b)) (filled_alike su mac w alike b (eqb-true (length w.memory) 5805 ys.0) (within_low 1 645 (length b) ys.1.0) (within_high 1 645 (length b) ys.1.0)) xs mac' (filled_only mac mac' b _ xs goes)
+          others _ (mac_with_msg3 mac (Some b)) (filled_alike su mac w alike b (eqb-true (length w.memory) 5805 ys.0) (within_low 1 645 (length b) ys.1.0) (within_high 1 645 (length b) ys.1.0)) xs mac' (filled_only mac mac' b _ xs goes)
 
   withdrawal_only : (w : World) (cs : List Call) → Then (λ v. Only v cs) → Only w (withdrawal_call ∷ cs)
   withdrawal_only w cs others mac alike = go (first_no (withdrawal_questions w.state.msg3))
@@ -167,7 +167,7 @@ module _ (su : Setup) (accepted : Accepted su) where
           → (xs : List (Option Sending)) (mac' : ts.MAC) → Goes su mac (if_accepted (stepped q) Msg3Emptied ++ happenings su (step_of w (stepped q)).world cs) xs mac'
           → (xs ≡ sent su (step_of w (stepped q)).world cs) × Alike su mac' (world_after su (step_of w (stepped q)).world cs)
       go (Err e) xs mac' goes = others w mac alike xs mac' goes
-      go (Ok u) xs mac' goes = others _ (with_msg3 mac None) (emptied_alike su mac w alike) xs mac' (emptied_only mac mac' _ xs goes)
+      go (Ok u) xs mac' goes = others _ (mac_with_msg3 mac None) (emptied_alike su mac w alike) xs mac' (emptied_only mac mac' _ xs goes)
 
   pub only : (cs : List Call) (w : World) → Only w cs
   only [] w = λ mac alike xs mac' goes. let r = rest_only mac mac' xs goes in (r.0, subst (λ z. Alike su z w) r.1 alike)
@@ -206,7 +206,7 @@ module _ (su : Setup) (accepted : Accepted su) where
       go (Err e) z = others w mac alike
       go (Ok u) z =
           let ys = all_yes qs z in
-          let r = others _ (with_msg3 mac (Some b)) (filled_alike su mac w alike b (eqb-true (length w.memory) 5805 ys.0) (within_low 1 645 (length b) ys.1.0) (within_high 1 645 (length b) ys.1.0)) in
+          let r = others _ (mac_with_msg3 mac (Some b)) (filled_alike su mac w alike b (eqb-true (length w.memory) 5805 ys.0) (within_low 1 645 (length b) ys.1.0) (within_high 1 645 (length b) ys.1.0)) in
           (r.0, with_msg3_filled mac r.0 b _ _ r.1)
 
   withdrawal_possible : (w : World) (cs : List Call) → Then (λ v. Possible v cs) → Possible w (withdrawal_call ∷ cs)
@@ -217,7 +217,7 @@ module _ (su : Setup) (accepted : Accepted su) where
 
       go : (q : Result (Unit {0}) Refusal) → (mac' : ts.MAC) × Goes su mac (if_accepted (stepped q) Msg3Emptied ++ happenings su (step_of w (stepped q)).world cs) (sent su (step_of w (stepped q)).world cs) mac'
       go (Err e) = others w mac alike
-      go (Ok u) = let r = others _ (with_msg3 mac None) (emptied_alike su mac w alike) in (r.0, with_msg3_emptied mac r.0 _ _ r.1)
+      go (Ok u) = let r = others _ (mac_with_msg3 mac None) (emptied_alike su mac w alike) in (r.0, with_msg3_emptied mac r.0 _ _ r.1)
 
   pub possible : (cs : List Call) (w : World) → Possible w cs
   possible [] w = λ mac alike. (mac, at_rest mac)

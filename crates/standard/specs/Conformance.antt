@@ -48,15 +48,15 @@ abbrev pub sent : Setup → World → List Call → List (Option Sending)
 sent su w [] = []
 sent su w (c ∷ cs) = sent_by su w c ++ sent su (step su w c).world cs
 
-abbrev pub with_msg3 : MAC → Option (List ℕ) → MAC
-with_msg3 m pdu = record { process = m.process; configured = m.configured; bundle = m.bundle; Msg3 = pdu }
+abbrev pub mac_with_msg3 : MAC → Option (List ℕ) → MAC
+mac_with_msg3 m pdu = record { process = m.process; configured = m.configured; bundle = m.bundle; Msg3 = pdu }
 
 -- what the MAC entity has the physical layer transmit in each TTI of what happens, and the MAC entity then
 pub data Goes (su : Setup) : MAC → List Happening → List (Option Sending) → MAC → Type 0 where
   at_rest : (m : MAC) → Goes su m [] [] m
   through_tti : (m m₁ m₂ : MAC) (i : TTI) (x : Option Sending) (hs : List Happening) (xs : List (Option Sending)) → Performs su m i x m₁ → Goes su m₁ hs xs m₂ → Goes su m (a_tti i ∷ hs) (x ∷ xs) m₂
-  with_msg3_filled : (m m₂ : MAC) (pdu : List ℕ) (hs : List Happening) (xs : List (Option Sending)) → Goes su (with_msg3 m (Some pdu)) hs xs m₂ → Goes su m (Msg3Filled pdu ∷ hs) xs m₂
-  with_msg3_emptied : (m m₂ : MAC) (hs : List Happening) (xs : List (Option Sending)) → Goes su (with_msg3 m None) hs xs m₂ → Goes su m (Msg3Emptied ∷ hs) xs m₂
+  with_msg3_filled : (m m₂ : MAC) (pdu : List ℕ) (hs : List Happening) (xs : List (Option Sending)) → Goes su (mac_with_msg3 m (Some pdu)) hs xs m₂ → Goes su m (Msg3Filled pdu ∷ hs) xs m₂
+  with_msg3_emptied : (m m₂ : MAC) (hs : List Happening) (xs : List (Option Sending)) → Goes su (mac_with_msg3 m None) hs xs m₂ → Goes su m (Msg3Emptied ∷ hs) xs m₂
 
 -- what the past of a cell brought, and what the cell sent in it
 abbrev pub brought_by : Past → List Happening
