@@ -44,7 +44,7 @@ impl<'a> Tape<'a> {
 impl Radio for Tape<'_> {
     ghost radioed = { tape_radioed };
 
-    ghost lender = { λ t. t.bytes.name };
+    ghost lender = { λ t. t.bytes.ghost_name };
 
     fn ready(&self) -> bool {
         self.count() < self.bytes.len() / SLOT

@@ -13,4 +13,4 @@ loop-line-preserved c =
     (search rules, search rules)
 
 pub returns : goal.returns
-returns c = let e = unreadable_end (c.loop-line.number + 1) (lines_of c.loop-line.lines.rest.now) c.in-default.ensures.line in search rules
+returns c = let e = unreadable_end (c.loop-line.number + 1) (lines_of c.loop-line.lines.rest.now) c.in_default.ensures.line in search rules

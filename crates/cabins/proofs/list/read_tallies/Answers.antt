@@ -9,4 +9,4 @@ loop-line-preserved c = joined_step tallies_in (vec_items c.loop-line.tallies) (
 
 pub returns : goal.returns
 unfolding tallies_of
-returns c = joined_end tallies_in (vec_items c.loop-line.tallies) (lines_of c.loop-line.lines.rest.now) _ c.in-default.ensures.line c.loop-line.invariant
+returns c = joined_end tallies_in (vec_items c.loop-line.tallies) (lines_of c.loop-line.lines.rest.now) _ c.in_default.ensures.line c.loop-line.invariant

@@ -5,8 +5,8 @@ use Rattle.cabins.specs.Texts.{cabin_line}
 use Rattle.cabins.proofs.Walking.{cabins_step, cabins_no_line, cabins_end}
 use Rattle.cabins.proofs.report.cabins_onto.Goals as goal
 
-pub returns-in-default : goal.returns-in-default
-returns-in-default c = cabins_no_line (vec_items c.loop-tally.out) (lines_of c.loop-tally.lines.rest.now) (drop c.loop-tally.tally-index c.args.tallies.now) _ c.in-default.ensures.line c.loop-tally.invariant
+pub returns-in_default : goal.returns-in_default
+returns-in_default c = cabins_no_line (vec_items c.loop-tally.out) (lines_of c.loop-tally.lines.rest.now) (drop c.loop-tally.tally-index c.args.tallies.now) _ c.in_default.ensures.line c.loop-tally.invariant
 
 pub loop-tally-preserved : goal.loop-tally-preserved
 loop-tally-preserved c =

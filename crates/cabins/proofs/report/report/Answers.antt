@@ -9,4 +9,4 @@ returns-in-Some c = unreadable (lines_of c.args.input.now) c.in-Some.line (vec_i
 pub returns : goal.returns
 returns c =
     readable (lines_of c.args.input.now) c.as_mut_slice.result.now (vec_items c.new_out.result) (vec_items c.report_onto.new.out) c.new_out.ensures.items
-    c.in-default.ensures (c.as_mut_slice.ensures.value ∙ c.in_ok-tallies.ensures) c.in_ok-report_onto.ensures
+    c.in_default.ensures (c.as_mut_slice.ensures.value ∙ c.in_ok-tallies.ensures) c.in_ok-report_onto.ensures

@@ -9,4 +9,4 @@ loop-line-preserved c = joined_step record_of (vec_items c.loop-line.records) (v
 
 pub returns : goal.returns
 unfolding book_of
-returns c = joined_end record_of (vec_items c.loop-line.records) (lines_of c.loop-line.lines.rest.now) _ c.in-default.ensures.line c.loop-line.invariant
+returns c = joined_end record_of (vec_items c.loop-line.records) (lines_of c.loop-line.lines.rest.now) _ c.in_default.ensures.line c.loop-line.invariant

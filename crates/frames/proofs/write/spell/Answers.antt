@@ -2,12 +2,12 @@ use Rattle.std.proofs.Common.{◌≡◌, arith, rules}
 use Rattle.frames.proofs.Spelling.{no_room_for_digits, no_room_for_bytes, stays, spells}
 use Rattle.frames.proofs.write.spell.Goals as goal
 
-pub returns-in-default : goal.returns-in-default
-returns-in-default c = let e = no_room_for_digits c.args.stretch.now c.args.bytes.now c.args.digits.now c.in-default.ensures in search rules
+pub returns-in_default : goal.returns-in_default
+returns-in_default c = let e = no_room_for_digits c.args.stretch.now c.args.bytes.now c.args.digits.now c.in_default.ensures in search rules
 
-pub returns-in-default-encode_into : goal.returns-in-default-encode_into
-returns-in-default-encode_into c =
-    let h = c.in-default-encode_into.ensures.value in
+pub returns-in_default-encode_into : goal.returns-in_default-encode_into
+returns-in_default-encode_into c =
+    let h = c.in_default-encode_into.ensures.value in
     let r = c.in-Some.ensures in
     let e = no_room_for_bytes c.args.stretch.now c.args.bytes.now c.args.digits.now c.in-Some.room r.0 r.1 h in
     let s = stays c.args.stretch.now c.encode_into.new.stretch c.args.bytes.now c.in-Some.room h c.encode_into.ensures.after in

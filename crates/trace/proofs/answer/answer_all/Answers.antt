@@ -16,4 +16,4 @@ loop-line-preserved c =
     c.in-Some.ensures.line c.in-Err.ensures.equipment c.in_ok-refusal_onto.ensures c.loop-line.invariant
 
 pub returns : goal.returns
-returns c = before_end (book_of c.args.input.now) (vec_items c.loop-line.out) _ (lines_of c.loop-line.lines.rest.now) c.in-default.ensures.line c.loop-line.invariant
+returns c = before_end (book_of c.args.input.now) (vec_items c.loop-line.out) _ (lines_of c.loop-line.lines.rest.now) c.in_default.ensures.line c.loop-line.invariant

@@ -10,4 +10,4 @@ loop-line-preserved c =
     c.in-Some.ensures.line c.in_ok-answer_line.ensures.session c.in_ok-answer_line.ensures.text c.loop-line.invariant
 
 pub returns : goal.returns
-returns c = from_end (standing_of c.loop-line.session) (vec_items c.loop-line.out) _ (lines_of c.loop-line.lines.rest.now) c.in-default.ensures.line c.loop-line.invariant
+returns c = from_end (standing_of c.loop-line.session) (vec_items c.loop-line.out) _ (lines_of c.loop-line.lines.rest.now) c.in_default.ensures.line c.loop-line.invariant

@@ -77,8 +77,8 @@ returns-in_err-ask g c =
       lender = refl;
     })
 
-pub returns-in-default : goal.returns-in-default
-returns-in-default g c =
+pub returns-in_default : goal.returns-in_default
+returns-in_default g c =
     let su = c.args.self.now.setup in
     let st = c.args.self.now.state in
     let m = c.args.memory.now in
