@@ -2,6 +2,8 @@
 use Rattle.std.proofs.Common.{◌≡◌, ℕ, ◌+◌, ◌-◌, ◌*◌, ◌≤◌, true, List, ◌++◌, length, take, drop, Some, None, Option, unwrap_or, sym, refl, ap, ◌∙◌, subst, arith, length-drop, take-append-drop, length-take, drop-drop}
 use borrow.Rule.Slice.PartMut.{put_mid}
 use Rattle.terms.specs.declared.grant.GrantInForce.{GrantInForce}
+use Rattle.terms.specs.declared.grant.Reception.{Reception}
+use Rattle.terms.specs.declared.grant.Reception.TheVariants.{CRnti, TemporaryCRnti, SpsRetransmission, Configured, RandomAccessResponse}
 use Rattle.rules.specs.Memory.{part, written}
 use Rattle.terms.specs.declared.decision.NewPacket.{NewPacket}
 use Rattle.ports.specs.Source.{FitsAsked, source_after}
@@ -26,6 +28,14 @@ abbrev marked : ℕ → Option NewPacket
 marked n = Some (record { length = n; from_msg3 = true })
 
 -- a packet that is taken from the Msg3 buffer
+-- the length of a Msg3 packet that is taken is that of the one that is held
+pub msg3_lengths : (r : Reception) (o : Option ℕ) (n : ℕ) → Some n ≡ msg3_taken r o → (1 ≤ unwrap_or o 1) × (unwrap_or o 1 ≤ 645) → (1 ≤ n) × (n ≤ 645)
+msg3_lengths (CRnti x) o n e h = cc
+msg3_lengths TemporaryCRnti o n e h = cc
+msg3_lengths SpsRetransmission o n e h = cc
+msg3_lengths Configured o n e h = cc
+msg3_lengths RandomAccessResponse o n e h = subst (λ q. (1 ≤ unwrap_or q 1) × (unwrap_or q 1 ≤ 645)) (sym e) h
+
 module _ (g : GrantInForce) (msg3 : Option ℕ) (m : List ℕ) (offers : ℕ → Option (List ℕ)) (k n : ℕ) (taken : Some n ≡ msg3_taken g.reception msg3) where
   from_msg3 : Some (record { from_msg3 = true; packet = part m 8 n }) ≡ obtained g msg3 m offers
   from_msg3 = ap (λ o. obtained_by o g.size m offers) taken

@@ -27,10 +27,10 @@ const MSG3_START: usize = 5160;
 // The source fills `n` bytes at the front of stretch `k`, and nothing outside them, or has none.
 pub(crate) fn fill_stretch<S: Source>(memory: &mut [u8], source: &mut S, k: u8, n: u16) -> bool
     requires { (length memory.old ≡ 5805) × ((k < 9) × (n ≤ 645)) }
-    ensures answer { result ≡ is_some (offers source.old n) }
-    ensures sizes { FitsSize n (offers source.old n) }
-    ensures memory { memory.new ≡ with_packet memory.old k (offers source.old n) }
-    ensures source { source.new ≡ source_after offers used source.old (Some n) }
+    ensures answer { result ≡ is_some (S.offers source.old n) }
+    ensures sizes { FitsSize n (S.offers source.old n) }
+    ensures memory { memory.new ≡ with_packet memory.old k (S.offers source.old n) }
+    ensures source { source.new ≡ source_after S.offers S.used source.old (Some n) }
 {
     let at = STRETCH * k as usize;
     source.fill(&mut memory[at..at + n as usize])
@@ -85,11 +85,11 @@ pub(crate) fn obtain<S: Source>(
 ) -> Option<NewPacket>
     requires memory_len { (length memory.old ≡ 5805) × ((k < 9) × (g.size ≤ 645)) }
     requires bound { (1 ≤ unwrap_or msg3 1) × (unwrap_or msg3 1 ≤ 645) }
-    ensures sized { FreshSized (obtained g msg3 memory.old (offers source.old)) }
-    ensures fits { FitsAsked (offers source.old) (asked_by (msg3_taken g.reception msg3) g.size) }
-    ensures packet { result ≡ new_packet (obtained g msg3 memory.old (offers source.old)) }
-    ensures memory { memory.new ≡ with_fresh memory.old k (obtained g msg3 memory.old (offers source.old)) }
-    ensures source { source.new ≡ source_after offers used source.old (asked_by (msg3_taken g.reception msg3) g.size) }
+    ensures sized { FreshSized (obtained g msg3 memory.old (S.offers source.old)) }
+    ensures fits { FitsAsked (S.offers source.old) (asked_by (msg3_taken g.reception msg3) g.size) }
+    ensures packet { result ≡ new_packet (obtained g msg3 memory.old (S.offers source.old)) }
+    ensures memory { memory.new ≡ with_fresh memory.old k (obtained g msg3 memory.old (S.offers source.old)) }
+    ensures source { source.new ≡ source_after S.offers S.used source.old (asked_by (msg3_taken g.reception msg3) g.size) }
 {
     if let Some(length) = take_msg3(g.reception, msg3) {
         copy_msg3(memory, k, length);
@@ -109,9 +109,9 @@ pub(crate) fn obtain<S: Source>(
 
 // The radio reads the packet of process `k` from the middle of packet memory.
 pub(crate) fn send_packet<R: Radio>(memory: &[u8], radio: &mut R, clock: u64, k: u8, p: Process)
-    requires { (length memory.now ≡ 5805) × ((k < 9) × ((1 ≤ unwrap_or p.buffer 0) × ((unwrap_or p.buffer 0 ≤ 645) × (has_room (radioed radio.old) ≡ true)))) }
-    ensures radio { radioed radio.new ≡ took (radioed radio.old) (sending_by clock k memory.now p) }
-    ensures lender { lender radio.new ≡ lender radio.old }
+    requires { (length memory.now ≡ 5805) × ((k < 9) × ((1 ≤ unwrap_or p.buffer 0) × ((unwrap_or p.buffer 0 ≤ 645) × (has_room (R.radioed radio.old) ≡ true)))) }
+    ensures radio { R.radioed radio.new ≡ took (R.radioed radio.old) (sending_by clock k memory.now p) }
+    ensures lender { R.lender radio.new ≡ R.lender radio.old }
 {
     let at = STRETCH * k as usize;
     let n = p.buffer.unwrap_or(0) as usize;

@@ -42,11 +42,11 @@ pub(crate) fn begin<S: Source>(
 ) -> Work
     requires memory_len { (length memory.old ≡ 5805) × ((k < 9) × ((p.current_tx_nb < 255) × (Sane p decision))) }
     requires bound { (1 ≤ unwrap_or msg3 1) × (unwrap_or msg3 1 ≤ 645) }
-    ensures obtains { Obtains decision msg3 memory.old (offers source.old) }
-    ensures fits { FitsAsked (offers source.old) (asked decision msg3) }
-    ensures work { result ≡ work_of (course setup decision msg3 memory.old (offers source.old) p) }
-    ensures memory { memory.new ≡ memory_after memory.old k (course setup decision msg3 memory.old (offers source.old) p) }
-    ensures source { source.new ≡ source_after offers used source.old (asked decision msg3) }
+    ensures obtains { Obtains decision msg3 memory.old (S.offers source.old) }
+    ensures fits { FitsAsked (S.offers source.old) (asked decision msg3) }
+    ensures work { result ≡ work_of (course setup decision msg3 memory.old (S.offers source.old) p) }
+    ensures memory { memory.new ≡ memory_after memory.old k (course setup decision msg3 memory.old (S.offers source.old) p) }
+    ensures source { source.new ≡ source_after S.offers S.used source.old (asked decision msg3) }
 {
     match decision {
         Decision::Rest(outcome) => Work::Rest(outcome, p),
@@ -81,10 +81,10 @@ fn attempt<R: Radio>(
     acked: bool,
     p: Process,
 ) -> Conclusion
-    requires { (length memory.now ≡ 5805) × ((k < 9) × ((Loaded setup p) × (has_room (radioed radio.old) ≡ true))) }
+    requires { (length memory.now ≡ 5805) × ((k < 9) × ((Loaded setup p) × (has_room (R.radioed radio.old) ≡ true))) }
     ensures conclusion { result ≡ attempted setup k gap new acked p }
-    ensures radio { radioed radio.new ≡ told (radioed radio.old) (sending_if (on_air acked gap p) (sending_by clock k memory.now p)) }
-    ensures lender { lender radio.new ≡ lender radio.old }
+    ensures radio { R.radioed radio.new ≡ told (R.radioed radio.old) (sending_if (on_air acked gap p) (sending_by clock k memory.now p)) }
+    ensures lender { R.lender radio.new ≡ R.lender radio.old }
 {
     let sent = goes_on_air(p, acked, gap);
     if sent {
@@ -117,10 +117,10 @@ pub(crate) fn conclude<R: Radio>(
     gap: bool,
     work: Work,
 ) -> Conclusion
-    requires { (length memory.now ≡ 5805) × ((k < 9) × ((LoadedWork setup work) × (has_room (radioed radio.old) ≡ true))) }
+    requires { (length memory.now ≡ 5805) × ((k < 9) × ((LoadedWork setup work) × (has_room (R.radioed radio.old) ≡ true))) }
     ensures conclusion { result ≡ concluded setup k gap work }
-    ensures radio { radioed radio.new ≡ told (radioed radio.old) (sending clock k memory.now gap work) }
-    ensures lender { lender radio.new ≡ lender radio.old }
+    ensures radio { R.radioed radio.new ≡ told (R.radioed radio.old) (sending clock k memory.now gap work) }
+    ensures lender { R.lender radio.new ≡ R.lender radio.old }
 {
     match work {
         Work::Rest(outcome, p) => Conclusion {

@@ -51,11 +51,11 @@ fn turn<R: Radio, S: Source>(
     requires sized { SizedGrant g }
     requires named { NamedBelow setup.kind g }
     requires within { (length memory.old ≡ 5805) × ((k < 8) × (state.old.clock < 2 ^ 48)) }
-    requires room { has_room (radioed radio.old) ≡ true }
-    ensures whole { record { answer = result; state = state.new; memory = memory.new; radio = radioed radio.new; source = source.new } ≡ after_done offers used (radioed radio.old) source.old (process_done setup state.old memory.old gap (offers source.old) g k).reply (process_done setup state.old memory.old gap (offers source.old) g k) }
+    requires room { has_room (R.radioed radio.old) ≡ true }
+    ensures whole { record { answer = result; state = state.new; memory = memory.new; radio = R.radioed radio.new; source = source.new } ≡ after_done S.offers S.used (R.radioed radio.old) source.old (process_done setup state.old memory.old gap (S.offers source.old) g k).reply (process_done setup state.old memory.old gap (S.offers source.old) g k) }
     ensures sound { Sound setup state.new }
-    ensures fits { FitsAsked (offers source.old) (process_done setup state.old memory.old gap (offers source.old) g k).asked }
-    ensures lender { lender radio.new ≡ lender radio.old }
+    ensures fits { FitsAsked (S.offers source.old) (process_done setup state.old memory.old gap (S.offers source.old) g k).asked }
+    ensures lender { R.lender radio.new ≡ R.lender radio.old }
 {
     let clock = state.clock;
     let p = refer(g, fetch(&state.processes, k));
@@ -114,12 +114,12 @@ impl Cell {
         answer: Option<Feedback>,
         grant: Option<Grant>,
     ) -> Result<Reply, Refusal>
-        ensures whole { record { answer = result; state = self.new.state; memory = memory.new; radio = radioed radio.new; source = source.new } ≡ after_subframe offers used self.old.setup self.old.state memory.old (radioed radio.old) source.old (covered gaps.now self.old.state.clock) answer grant }
+        ensures whole { record { answer = result; state = self.new.state; memory = memory.new; radio = R.radioed radio.new; source = source.new } ≡ after_subframe S.offers S.used self.old.setup self.old.state memory.old (R.radioed radio.old) source.old (G.covered gaps.now self.old.state.clock) answer grant }
         ensures setup { self.new.setup ≡ self.old.setup }
-        ensures promise { KeepsPromise self.old.setup (world self.old.state memory.old (radioed radio.old).count) (subframe_over answer grant (covered gaps.now) (offers source.old) (radioed radio.old)) (world self.new.state memory.new (radioed radio.new).count) }
-        ensures latest { (radioed radio.new).latest ≡ latest_after self.old.setup (world self.old.state memory.old (radioed radio.old).count) (subframe_over answer grant (covered gaps.now) (offers source.old) (radioed radio.old)) (radioed radio.old).latest }
-        ensures standard { ByTheStandard self.old.setup (world self.old.state memory.old (radioed radio.old).count) (brought_over answer grant (covered gaps.now) (offers source.old) (radioed radio.old)) result (radioed radio.old) (radioed radio.new) }
-        ensures lender { lender radio.new ≡ lender radio.old }
+        ensures promise { KeepsPromise self.old.setup (world self.old.state memory.old (R.radioed radio.old).count) (subframe_over answer grant (G.covered gaps.now) (S.offers source.old) (R.radioed radio.old)) (world self.new.state memory.new (R.radioed radio.new).count) }
+        ensures latest { (R.radioed radio.new).latest ≡ latest_after self.old.setup (world self.old.state memory.old (R.radioed radio.old).count) (subframe_over answer grant (G.covered gaps.now) (S.offers source.old) (R.radioed radio.old)) (R.radioed radio.old).latest }
+        ensures standard { ByTheStandard self.old.setup (world self.old.state memory.old (R.radioed radio.old).count) (brought_over answer grant (G.covered gaps.now) (S.offers source.old) (R.radioed radio.old)) result (R.radioed radio.old) (R.radioed radio.new) }
+        ensures lender { R.lender radio.new ≡ R.lender radio.old }
     {
         let clock = self.state.clock;
         let gap = gaps.covers(clock);

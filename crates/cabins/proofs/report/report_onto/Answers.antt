@@ -3,8 +3,8 @@ use Rattle.frames.specs.Lines.{lines_of}
 use Rattle.cabins.proofs.Telling.{accepted, refused}
 use Rattle.cabins.proofs.report.report_onto.Goals as goal
 
-pub returns-in_ok-cabins_onto : goal.returns-in_ok-cabins_onto
-returns-in_ok-cabins_onto c =
+pub returns-in_ok-cabins_onto-in-Ok : goal.returns-in_ok-cabins_onto-in-Ok
+returns-in_ok-cabins_onto-in-Ok c =
     accepted c.site_onto.result (lines_of c.args.input.now) c.args.tallies.now c.site_figure.new.tallies c.in-Ok.figure (vec_items c.args.out.now) (vec_items c.cabins_onto.new.out) (vec_items c.site_onto.new.out)
     c.in-Ok.ensures.answer c.in-Ok.ensures.after c.in_ok-cabins_onto.ensures c.site_onto.ensures
 

@@ -14,47 +14,29 @@ turn-requires g c =
     (sound_cell c.args.self.now) in
     record { sound = z.sound; sized = z.sized; named = z.named; within = (z.whole, (z.bound, z.clock)); room = sym c.ready.ensures ∙ z.room }
 
-pub invariant-of-self : goal.invariant-of-self
-invariant-of-self g c =
+pub invariant_of-self : goal.invariant_of-self
+invariant_of-self g c =
     let eo : None ≡ process_of c.args.self.now.setup.kind c.args.self.now.state.clock c.force-g.result c.take_answer.new.state.repetition = search rules in
     let z = sound_idle c.args.self.now.setup c.args.self.now.state c.args.memory.now c.covers-gap.result c.args.answer c.args.grant c.take_answer.new.state c.force-g.result c.store-self.result None
-    c.take_answer.ensures c.force-g.ensures c.store-self.ensures eo c.ready.result c.in_ok-ask.ensures (sound_cell c.args.self.now) in (
-      c.args.self.now.accepted,
-      (
-        z.bounds.least,
-        (
-          z.bounds.most,
-          (
-            z.bounds.least3,
-            (
-              z.bounds.most3,
-              (
-                z.packets,
-                (
-                  z.sendings,
-                  (
-                    z.smallest,
-                    (
-                      z.largest,
-                      (
-                        z.shortest,
-                        (
-                          z.longest,
-                          (
-                            z.repeats,
-                            ((λ k l. (z.good k l).index), ((λ k l. (z.good k l).count), ((λ k l. (z.good k l).not_empty), ((λ k l. (z.good k l).not_long), ((λ k l. (z.good k l).limit), tt))))),
-                          ),
-                        ),
-                      ),
-                    ),
-                  ),
-                ),
-              ),
-            ),
-          ),
-        ),
-      ),
-    )
+    c.take_answer.ensures c.force-g.ensures c.store-self.ensures eo c.ready.result c.in_ok-ask.ensures (sound_cell c.args.self.now) in record {
+      accepted = c.args.self.now.accepted;
+      least = z.bounds.least;
+      most = z.bounds.most;
+      least_msg3 = z.bounds.least3;
+      most_msg3 = z.bounds.most3;
+      packets = z.packets;
+      sendings = z.sendings;
+      smallest = z.smallest;
+      largest = z.largest;
+      shortest = z.shortest;
+      longest = z.longest;
+      repeats = z.repeats;
+      indices = λ k l. (z.good k l).index;
+      counts = λ k l. (z.good k l).count;
+      not_empty = λ k l. (z.good k l).not_empty;
+      not_long = λ k l. (z.good k l).not_long;
+      limits = λ k l. (z.good k l).limit;
+    }
 
 pub returns-in_err-ask : goal.returns-in_err-ask
 returns-in_err-ask g c =
