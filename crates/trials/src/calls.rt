@@ -175,7 +175,7 @@ fn tally_and_latest(rt: HostRuntime) -> Result<(), Fail> {
         return Err(Fail::new("nothing was sent"));
     };
     assert!(rt; latest.subframe == 16 && latest.process == 0 && latest.version.0 == 3);
-    assert!(rt; latest.mcs == 5 && latest.resource == 7 && latest.packet == [0xa1, 0xb2]);
+    assert!(rt; latest.mcs == 5 && latest.resource == 7 && latest.packet == [0xa1, 0xb2].as_slice());
     Ok(())
 }
 
@@ -215,7 +215,7 @@ fn largest_packet(rt: HostRuntime) -> Result<(), Fail> {
     let mut padded = [0; 645];
     padded[0] = 0xa1;
     padded[1] = 0xb2;
-    assert!(rt; latest.process == 7 && latest.packet == padded);
+    assert!(rt; latest.process == 7 && latest.packet == padded.as_slice());
     assert!(rt; memory[4514] == 1 && memory[5160] == 1);
     Ok(())
 }
@@ -242,7 +242,7 @@ fn mailbox(rt: HostRuntime) -> Result<(), Fail> {
         return Err(Fail::new("nothing was taken"));
     };
     assert!(rt; latest.subframe == 1 && latest.process == 2 && latest.version.0 == 3);
-    assert!(rt; latest.mcs == 4 && latest.resource == 5 && latest.packet == [6; 645]);
+    assert!(rt; latest.mcs == 4 && latest.resource == 5 && latest.packet == [6; 645].as_slice());
     Ok(())
 }
 

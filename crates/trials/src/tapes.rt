@@ -95,7 +95,7 @@ fn two_slots_and_a_bit(rt: HostRuntime) -> Result<(), Fail> {
     };
     assert!(rt; first.subframe == 0x0102_0304_0506_0708 && first.process == 3);
     assert!(rt; first.version.0 == 2 && first.mcs == 28 && first.resource == 0x1234);
-    assert!(rt; first.packet == [0xa1; 2] && tape.instruction(2).is_none());
+    assert!(rt; first.packet == [0xa1; 2].as_slice() && tape.instruction(2).is_none());
     assert!(rt; bytes[0..16] == [1, 2, 3, 4, 5, 6, 7, 8, 3, 2, 28, 0, 0x12, 0x34, 0, 2]);
     assert!(rt; bytes[668..677] == [9, 3, 2, 28, 0, 0x12, 0x34, 2, 0x85]);
     for filled in FILLED {
@@ -117,9 +117,9 @@ fn one_slot(rt: HostRuntime) {
 
 // Hands an instruction to any radio.
 fn hand<R: Radio>(radio: &mut R, instruction: Instruction<'_>) -> bool
-    ensures answer { result ≡ accepts (radioed radio.old) (sending_of instruction.entry) }
-    ensures after { radioed radio.new ≡ after_take (radioed radio.old) (sending_of instruction.entry) }
-    ensures lender { lender radio.new ≡ lender radio.old }
+    ensures answer { result ≡ accepts (R.radioed radio.old) (sending_of instruction.entry) }
+    ensures after { R.radioed radio.new ≡ after_take (R.radioed radio.old) (sending_of instruction.entry) }
+    ensures lender { R.lender radio.new ≡ R.lender radio.old }
 {
     radio.take(instruction)
 }
