@@ -1,12 +1,11 @@
 -- Slots in the bytes of a tape: what a write to one leaves.
-use Rattle.std.proofs.Common.{◌≡◌, ℕ, ◌+◌, ◌-◌, ◌*◌, ◌/◌, ◌<◌, ◌≤◌, Bool, true, false, cond, ltb, leb, List, ◌++◌, length, take, drop, Some, None, sym, refl, ap, ◌∙◌, arith, length-append, length-drop, take-append-drop, length-take, rules}
+use Rattle.std.proofs.Common.{◌≡◌, ℕ, ◌+◌, ◌-◌, ◌*◌, ◌/◌, ◌<◌, ◌≤◌, Bool, true, false, cond, ltb, leb, List, ◌++◌, length, take, drop, None, refl, ap, ◌∙◌, arith, length-append, length-drop, take-append-drop, length-take, rules}
 use borrow.Rule.Slice.PartMut.{put_mid}
 use Rattle.std.proofs.lemmas.List.{take_at, drop_at, drop-drop, drop-append-le, take-append-le, drop-take, take-take}
 use Rattle.terms.specs.Sendings.{Sending, is_packet}
-use Rattle.ports.specs.Radio.{accepts}
-use Rattle.slot.specs.Slots.{slot_of, decoded, takes_slot, after_encoding, FitsSlot}
+use Rattle.slot.specs.Slots.{slot_of, decoded, takes_slot, after_encoding}
 use Rattle.slot.proofs.Coding.{length_slot, decoded_slot}
-use Rattle.below.specs.Tape.{slot_at, said_in, bytes_radioed, with_slot, written_at, bytes_after, TapeKeeps}
+use Rattle.below.specs.Tape.{slot_at, with_slot, written_at, TapeKeeps}
 
 -- the part of slot k is the slot, and a write to it replaces the slot
 pub part_slot : (b : List ℕ) (k n : ℕ) → n ≡ 661 → take n (drop (661 * k) b) ≡ slot_at b k

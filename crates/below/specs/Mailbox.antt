@@ -1,5 +1,5 @@
 -- The meaning of a mailbox.
-use Rattle.std.specs.Prelude.{ℕ, ◌^◌, take, Some, None, Option}
+use Rattle.std.specs.Prelude.{◌^◌, take, Some, None, Option}
 use Rattle.terms.specs.Sendings.{Sending}
 use Rattle.ports.specs.Radio.{Radioed}
 use Rattle.below.specs.declared.mailbox.Mailbox.{Mailbox}

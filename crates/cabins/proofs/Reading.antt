@@ -1,8 +1,8 @@
 -- What is written of a cabin is read again.
-use Rattle.std.proofs.Common.{◌≡◌, ℕ, suc, ◌+◌, ◌-◌, ◌*◌, ◌/◌, ◌%◌, ◌^◌, ◌<◌, ◌≤◌, min, Bool, true, false, cond, not, ◌&&◌, eqb, leb, List, [], ◌∷◌, ◌++◌, length, take, drop, Some, None, decimal, Option, sym, refl, ap, ◌∙◌, div-add-mod', arith, rules}
+use Rattle.std.proofs.Common.{◌≡◌, ℕ, suc, ◌+◌, ◌-◌, ◌*◌, ◌/◌, ◌%◌, ◌^◌, ◌<◌, ◌≤◌, min, Bool, true, false, cond, not, ◌&&◌, eqb, List, [], ◌∷◌, ◌++◌, length, take, drop, Some, None, decimal, refl, ap, ◌∙◌, div-add-mod', arith, rules}
 use Rattle.std.proofs.lemmas.Bool.{false≢true}
 use Rattle.std.proofs.lemmas.Fmt.{decimal_by_steps, decimal_nonempty}
-use Rattle.cabins.specs.Entries.{word_length, word_of, after_word, is_digit, next_value, number_on, number_of, tally_with, tally_of, free_of_spaces, entry, EntriesReadBack}
+use Rattle.cabins.specs.Entries.{word_length, word_of, after_word, is_digit, next_value, number_on, number_of, tally_with, free_of_spaces, entry, EntriesReadBack}
 
 -- the word before a space, and what stands after it
 length_before : (a b : List ℕ) → free_of_spaces a ≡ true → word_length (a ++ 32 ∷ b) ≡ length a

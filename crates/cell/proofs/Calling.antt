@@ -1,5 +1,5 @@
 -- A subframe call that was admitted, by what each of its stages returned.
-use Rattle.std.proofs.Common.{◌≡◌, ℕ, ◌^◌, ◌<◌, Bool, true, List, length, Some, Ok, Err, Option, Result, sym, refl, ap, ◌∙◌, subst}
+use Rattle.std.proofs.Common.{◌≡◌, ℕ, ◌^◌, ◌<◌, Bool, true, List, length, Some, Ok, Option, Result, sym, ap, ◌∙◌, subst}
 use Rattle.terms.specs.declared.answer.Refusal.{Refusal}
 use Rattle.terms.specs.declared.answer.Reply.{Reply}
 use Rattle.terms.specs.declared.setup.Setup.{Setup}

@@ -1,5 +1,5 @@
 -- The promise over whole runs, on the calls.
-use Rattle.std.proofs.Common.{◌≡◌, ℕ, ◌≤◌, Bool, true, false, List, [], ◌∷◌, ◌++◌, length, Some, None, Ok, Err, Option, Result, sym, refl, ap, ◌∙◌, subst, arith}
+use Rattle.std.proofs.Common.{◌≡◌, ℕ, Bool, true, false, List, [], ◌∷◌, ◌++◌, length, Some, None, Ok, Err, Option, Result, sym, refl, ap, ◌∙◌, subst, arith}
 use Rattle.terms.specs.Sendings.{Sending}
 use Rattle.terms.specs.declared.answer.Refusal.{Refusal}
 use Rattle.terms.specs.declared.answer.Reply.{Reply}
@@ -17,8 +17,8 @@ use Rattle.rules.specs.Subframe.{Given, Done, Event, deposits, heard, with_confi
 use Rattle.rules.specs.Memory.{written}
 use Rattle.rules.specs.Setup.{first_no}
 use Rattle.rules.specs.Msg3.{Left, with_msg3, left_unless_refused, deposit_questions, deposit_done, deposit, withdrawal_questions, withdrawal_done, withdrawal}
-use Rattle.runs.specs.Runs.{World, Call, deposit_call, withdrawal_call, fitting, Step, subframe_step, msg3_step, step_of, step, Past, world_now, Accepted, past_with}
-use Rattle.runs.specs.Promise.{Promise, KeepsPromise}
+use Rattle.runs.specs.Runs.{World, Call, deposit_call, withdrawal_call, fitting, subframe_step, msg3_step, step_of, step, Accepted}
+use Rattle.runs.specs.Promise.{KeepsPromise}
 use Rattle.runs.proofs.Main.{call_keeps}
 use Rattle.runs.proofs.Offers.{Fits, with_offers, subframe_fitting}
 use Rattle.cell.specs.Calls.{After, after_result, after_subframe, Filed, after_left, after_deposit, after_withdrawal}

@@ -1,5 +1,5 @@
 -- A packet written to the front of a stretch of packet memory.
-use Rattle.std.proofs.Common.{◌≡◌, ℕ, ◌+◌, ◌-◌, ◌*◌, ◌≤◌, true, List, ◌++◌, length, take, drop, Some, None, Option, unwrap_or, sym, refl, ap, ◌∙◌, subst, arith, length-drop, take-append-drop, length-take, drop-drop}
+use Rattle.std.proofs.Common.{◌≡◌, ℕ, ◌+◌, ◌-◌, ◌*◌, ◌≤◌, true, List, length, take, drop, Some, None, Option, unwrap_or, sym, ap, ◌∙◌, subst, arith, length-drop, take-append-drop, length-take, drop-drop}
 use borrow.Rule.Slice.PartMut.{put_mid}
 use Rattle.terms.specs.declared.grant.GrantInForce.{GrantInForce}
 use Rattle.terms.specs.declared.grant.Reception.{Reception}

@@ -13,8 +13,8 @@ use Rattle.hexadecimal.proofs.Rounds.{encoded_decodes, decoded_encodes, encoded_
 use Rattle.frames.specs.declared.frame.SetupFrame.{SetupFrame}
 use Rattle.frames.specs.declared.frame.Frame.{Frame}
 use Rattle.frames.specs.Frames.{Plain, plain, plainly, setup, subframe, deposit, withdrawal, packet, two_at, two_bytes, eight_at, eight_bytes, setup_of, grant_of, answer_of, granted_in, setup_in, setup_frame, subframe_frame, framed, reads}
-use Rattle.frames.specs.Written.{spelled, setup_bytes, answer_byte, grant_bytes, granted_bytes, subframe_bytes, is_packet, line_of, written, after_writing}
-use Rattle.frames.specs.Trips.{SetupFits, GrantFits, FrameFits, WrittenReads, ReadWrites, Unread, RefusedUnread, OneSpelling, NoLineFits}
+use Rattle.frames.specs.Written.{spelled, setup_bytes, answer_byte, grant_bytes, subframe_bytes, is_packet, line_of, written, after_writing}
+use Rattle.frames.specs.Trips.{SetupFits, GrantFits, FrameFits, WrittenReads, ReadWrites, RefusedUnread, OneSpelling, NoLineFits}
 
 -- bytes to a number, and to bytes again
 two_trip : (a b : ℕ) → a < 256 → b < 256 → two_bytes (a * 256 + b) ≡ a ∷ b ∷ []

@@ -1,6 +1,5 @@
 -- Reading and writing undo each other.
-use Rattle.std.specs.Prelude.{◌≡◌, ℕ, ◌^◌, ◌<◌, List, length, Some, None, Ok, Err, Option, Result, ◌≢◌}
-use Rattle.terms.specs.declared.answer.Refusal.{Refusal}
+use Rattle.std.specs.Prelude.{◌≡◌, ℕ, ◌^◌, ◌<◌, List, length, Some, None, Ok, Err, Option, ◌≢◌}
 use Rattle.terms.specs.declared.answer.Refusal.TheVariants.{NotFrame}
 use Rattle.terms.specs.declared.grant.Grant.{Grant}
 use Rattle.frames.specs.declared.frame.SetupFrame.{SetupFrame}

@@ -1,7 +1,7 @@
 -- Bytes in hexadecimal and back, text to bytes and back.
 use Rattle.std.proofs.Common.{◌≡◌, ℕ, ◌+◌, ◌*◌, ◌/◌, ◌%◌, ◌<◌, true, ◌&&◌, eqb, List, [], ◌∷◌, length, refl, ap, ◌∙◌, arith}
 use Rattle.std.proofs.lemmas.Bool.{and_parts, and_from, eqb-true, eq-eqb}
-use Rattle.hexadecimal.specs.Hex.{is_digit, digit_of, letter_of, all_digits, decoded, encoded, whole, Bytes, EncodedDecodes, DecodedEncodes, EncodedWhole, DecodedBytes}
+use Rattle.hexadecimal.specs.Hex.{is_digit, digit_of, letter_of, all_digits, decoded, encoded, Bytes, EncodedDecodes, DecodedEncodes, EncodedWhole, DecodedBytes}
 use Rattle.hexadecimal.proofs.Coding.{length_encoded}
 
 -- a digit, its value and its digit again

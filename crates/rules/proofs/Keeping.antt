@@ -1,8 +1,7 @@
 -- What a cell keeps, from call to call.
-use Rattle.std.proofs.Common.{◌≡◌, ℕ, zero, suc, ◌+◌, ◌-◌, ◌*◌, ◌/◌, ◌%◌, ◌^◌, ◌<◌, ◌≤◌, Bool, true, false, cond, not, ◌&&◌, ◌||◌, eqb, ltb, leb, ◌⊎◌, List, [], ◌∷◌, length, get_or, set, replicate, is_some, Some, None, Ok, Err, Option, Result, unwrap_or, sym, refl, ap, ◌∙◌, subst, inl, inr, ⊎_elim, arith}
+use Rattle.std.proofs.Common.{◌≡◌, ℕ, zero, suc, ◌+◌, ◌-◌, ◌/◌, ◌%◌, ◌^◌, ◌<◌, ◌≤◌, Bool, true, false, cond, ◌&&◌, eqb, ltb, leb, ◌⊎◌, List, [], ◌∷◌, length, get_or, set, replicate, is_some, Some, None, Ok, Err, Option, Result, unwrap_or, sym, refl, ap, ◌∙◌, subst, inl, inr, ⊎_elim, arith}
 use Rattle.std.proofs.lemmas.Bool.{eqb-true, ltb-true}
 use Rattle.terms.specs.declared.answer.Refusal.{Refusal}
-use Rattle.terms.specs.declared.answer.Refusal.TheVariants as refusal
 use Rattle.terms.specs.declared.answer.Outcome.TheVariants.{Idle}
 use Rattle.terms.specs.declared.setup.CellKind.{CellKind}
 use Rattle.terms.specs.declared.setup.CellKind.TheVariants.{Plain, Bundled, Asynchronous}
@@ -24,10 +23,10 @@ use Rattle.terms.specs.declared.decision.Conclusion.{Conclusion}
 use Rattle.terms.specs.declared.version.RedundancyVersion.{RedundancyVersion}
 use Rattle.terms.specs.Versions.{index_of}
 use Rattle.rules.specs.Process.{idle, synchronous, holds_packet, hears, granted_version, first_index, counted, renewed, adapted, repeated, on_air, advanced, maximum, gives_up, flushed, transmitted}
-use Rattle.rules.specs.Reception.{in_force_by, over_the_air, reception_of, recurs, recurring, stored_in_force, grant_in_force, activates, stored_after, referred}
-use Rattle.rules.specs.Entity.{process_at, repeating, process_of, answering, wants_new, spares, decided_by, decided, Fresh, Course, rests, begins, again, begun, obtained, course, work_of}
+use Rattle.rules.specs.Reception.{in_force_by, reception_of, recurs, recurring, stored_in_force, grant_in_force, activates, stored_after, referred}
+use Rattle.rules.specs.Entity.{process_at, repeating, process_of, answering, wants_new, spares, decided_by, decided, Fresh, begun, obtained, course, work_of}
 use Rattle.rules.specs.Setup.{first_no, all_yes, within, set_up_questions, fresh_state}
-use Rattle.rules.specs.Questions.{answer_due, kind_allowed, fields_by_kind, fields_hold, grant_questions, asked_of_grant, questioned}
+use Rattle.rules.specs.Questions.{answer_due, kind_allowed, fields_by_kind, fields_hold, asked_of_grant, questioned}
 use Rattle.rules.specs.Subframe.{heard_at, heard, with_configured, clock_moved, concluded, repetition_by, repetition_after, finished}
 use Rattle.rules.specs.Invariant.{stored_size, repeated_process, Good, Loaded, Bounds, Sound, LoadedWork, SizedGrant, Sane, FreshSized, Obtains, NamedBelow}
 

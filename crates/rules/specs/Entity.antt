@@ -1,7 +1,7 @@
 -- The HARQ entity (TS 36.321, 5.4.2.1): the process of a subframe, and what it is instructed to do.
 use Rattle.std.specs.Prelude.{ℕ, ◌-◌, ◌/◌, ◌%◌, Bool, true, false, cond, not, ◌&&◌, ◌||◌, List, length, Some, None, Option, ◌==◌, nat_le, nat_lt, slice_index_or}
 use Rattle.terms.specs.declared.answer.Outcome.{Outcome}
-use Rattle.terms.specs.declared.answer.Outcome.TheVariants.{Idle, EmptyBuffer, NoPacket, Sent, Gap, Acknowledged}
+use Rattle.terms.specs.declared.answer.Outcome.TheVariants.{Idle, EmptyBuffer, NoPacket}
 use Rattle.terms.specs.declared.setup.CellKind.{CellKind}
 use Rattle.terms.specs.declared.setup.CellKind.TheVariants.{Plain, Bundled, Asynchronous}
 use Rattle.terms.specs.declared.setup.Setup.{Setup}
@@ -12,7 +12,6 @@ use Rattle.terms.specs.declared.process.Process.{Process}
 use Rattle.terms.specs.declared.state.Repetition.{Repetition}
 use Rattle.terms.specs.declared.decision.Decision.{Decision}
 use Rattle.terms.specs.declared.decision.Decision.TheVariants as decision
-use Rattle.terms.specs.declared.decision.NewPacket.{NewPacket}
 use Rattle.terms.specs.declared.decision.Work.{Work}
 use Rattle.terms.specs.declared.decision.Work.TheVariants as work
 use Rattle.rules.specs.Memory.{part, written}

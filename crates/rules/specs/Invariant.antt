@@ -1,5 +1,5 @@
 -- What a cell keeps from call to call.
-use Rattle.std.specs.Prelude.{◌≡◌, ℕ, ◌+◌, ◌^◌, ◌<◌, ◌≤◌, Bool, true, ◌&&◌, List, length, Some, None, Option}
+use Rattle.std.specs.Prelude.{◌≡◌, ℕ, ◌+◌, ◌<◌, ◌≤◌, true, ◌&&◌, List, length, Some, None, Option}
 use Rattle.std.specs.Option.{unwrap_or}
 use Rattle.terms.specs.declared.setup.CellKind.{CellKind}
 use Rattle.terms.specs.declared.setup.CellKind.TheVariants.{Plain, Bundled, Asynchronous}

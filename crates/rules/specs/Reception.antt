@@ -1,5 +1,5 @@
 -- UL grant reception (TS 36.321, 5.4.1): the grant in force in a subframe, the stored configured grant, and the reference NDI.
-use Rattle.std.specs.Prelude.{ℕ, ◌-◌, ◌%◌, Bool, true, false, cond, ◌&&◌, Some, None, Option, ◌==◌, nat_lt}
+use Rattle.std.specs.Prelude.{ℕ, ◌-◌, ◌%◌, Bool, cond, ◌&&◌, Some, None, Option, ◌==◌, nat_lt}
 use Rattle.terms.specs.declared.setup.Setup.{Setup}
 use Rattle.terms.specs.declared.grant.Grant.{Grant}
 use Rattle.terms.specs.declared.grant.Reception.{Reception}

@@ -1,5 +1,5 @@
 -- What a subframe call does, stage by stage, and the events that it yields.
-use Rattle.std.specs.Prelude.{ℕ, ◌+◌, Bool, true, false, cond, ◌&&◌, List, [], ◌∷◌, ◌++◌, length, Some, None, Ok, Err, Option, Result, slice_set}
+use Rattle.std.specs.Prelude.{ℕ, ◌+◌, Bool, true, false, cond, List, [], ◌∷◌, ◌++◌, length, Some, None, Ok, Err, Option, Result, slice_set}
 use Rattle.std.specs.Option.{unwrap_or}
 use Rattle.terms.specs.declared.answer.Outcome.{Outcome}
 use Rattle.terms.specs.declared.answer.Outcome.TheVariants.{Idle, EmptyBuffer, NoPacket, Sent, Gap, Acknowledged}
@@ -24,7 +24,7 @@ use Rattle.terms.specs.Sendings.{Sending}
 use Rattle.rules.specs.Memory.{part}
 use Rattle.rules.specs.Process.{hears, on_air, gives_up, transmitted}
 use Rattle.rules.specs.Reception.{grant_in_force, stored_after, referred}
-use Rattle.rules.specs.Entity.{process_at, process_of, answering, decided, Fresh, Course, rests, begins, again, course, asked, work_of, memory_after}
+use Rattle.rules.specs.Entity.{process_at, process_of, answering, decided, Course, rests, begins, again, course, asked, work_of, memory_after}
 use Rattle.rules.specs.Questions.{questioned}
 
 -- what a subframe call is given beside the cell and its packet memory

@@ -1,12 +1,10 @@
 -- Worked runs: what comes to a cell from set-up on, and what must follow.
-use Rattle.std.specs.Prelude.{◌≡◌, ℕ, ◌+◌, ◌-◌, ◌%◌, Bool, true, false, cond, ◌||◌, List, [], ◌∷◌, ◌++◌, replicate, Some, None, Ok, Err, Option, Result, nat_lt, slice_index}
+use Rattle.std.specs.Prelude.{◌≡◌, ℕ, ◌+◌, ◌-◌, ◌%◌, Bool, true, false, List, [], ◌∷◌, ◌++◌, replicate, Some, None, Ok, Err, Option, Result, nat_lt, slice_index}
 use Rattle.terms.specs.declared.answer.Refusal.{Refusal}
-use Rattle.terms.specs.declared.setup.CellKind.{CellKind}
-use Rattle.terms.specs.declared.setup.CellKind.TheVariants.{Plain, Bundled, Asynchronous}
 use Rattle.terms.specs.declared.setup.Setup.{Setup}
 use Rattle.terms.specs.declared.grant.Grant.{Grant}
 use Rattle.terms.specs.declared.process.Feedback.{Feedback}
-use Rattle.terms.specs.declared.process.Feedback.TheVariants.{Ack, Nack}
+use Rattle.terms.specs.declared.process.Feedback.TheVariants.{Ack}
 use Rattle.terms.specs.declared.state.State.{State}
 use Rattle.terms.specs.Numbers.{outcome_number, refusal_number}
 use Rattle.terms.specs.Sendings.{Sending}

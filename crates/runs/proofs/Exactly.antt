@@ -1,8 +1,8 @@
 -- The sendings and new transmissions of a run, counted on the events and on the stays.
-use Rattle.std.proofs.Common.{◌≡◌, ℕ, ◌+◌, true, List, [], ◌∷◌, length, sym, refl, ap, ◌∙◌, zero-add, arith}
+use Rattle.std.proofs.Common.{◌≡◌, ◌+◌, true, List, [], ◌∷◌, length, sym, refl, ap, ◌∙◌, zero-add, arith}
 use Rattle.terms.specs.Sendings.{Sending}
 use Rattle.rules.specs.Subframe.{Event, answers, meets, starts, sends, flushes, deposits}
-use Rattle.runs.specs.Runs.{Past, world_now, happened}
+use Rattle.runs.specs.Runs.{Past, happened}
 use Rattle.runs.specs.Stays.{Stay, Log, recorded, recorded_all, empty_log, with_met, with_sending, with_end, replaced, answer_met, subframe_met, passing, passing_of_stays, sendings_of_stays, sendings_of_run, starts_of_run}
 use Rattle.runs.specs.Promise.{stays_of, Counted, Exact}
 use Rattle.runs.proofs.Amends.{length_amended}

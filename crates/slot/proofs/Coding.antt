@@ -1,11 +1,11 @@
 -- A slot has 661 bytes, and gives back its sending.
-use Rattle.std.proofs.Common.{◌≡◌, ℕ, ◌+◌, ◌-◌, ◌*◌, ◌/◌, ◌%◌, ◌^◌, ◌<◌, ◌≤◌, Bool, true, false, cond, ◌&&◌, leb, List, [], ◌∷◌, ◌++◌, length, get_or, take, drop, replicate, Some, None, Option, sym, refl, ap, ◌∙◌, append_assoc, append-nil, arith, length-append, length-drop, length-take, rules}
+use Rattle.std.proofs.Common.{◌≡◌, ℕ, ◌+◌, ◌-◌, ◌*◌, ◌/◌, ◌%◌, ◌^◌, ◌<◌, ◌≤◌, true, leb, List, [], ◌++◌, length, take, drop, replicate, Some, sym, refl, ap, ◌∙◌, append_assoc, append-nil, arith, length-append, rules}
 use borrow.Rule.Slice.PartMut.{put_mid}
 use lib.ListN.{length-replicate}
 use Rattle.std.proofs.lemmas.List.{take_at, drop_at, drop-replicate}
 use Rattle.terms.specs.Sendings.{Sending, is_packet}
 use Rattle.terms.specs.declared.version.RedundancyVersion.{RedundancyVersion}
-use Rattle.slot.specs.Slots.{heading, slot_of, decoded, is_slot, said_by, two_at, first_eight, FitsSlot}
+use Rattle.slot.specs.Slots.{heading, slot_of, decoded, is_slot, said_by, two_at, FitsSlot}
 
 -- eight bytes and two bytes of a number make up the number
 eight : (n : ℕ) → n < 2 ^ 64 → n / 72057594037927936 % 256 * 72057594037927936 + n / 281474976710656 % 256 * 281474976710656 + n / 1099511627776 % 256 * 1099511627776 + n / 4294967296 % 256 * 4294967296 + n / 16777216 % 256 * 16777216 + n / 65536 % 256 * 65536 + n / 256 % 256 * 256 + n % 256 ≡ n

@@ -1,5 +1,5 @@
 -- What the questions of set-up and of a subframe have settled of the grants that the relations see.
-use Rattle.std.proofs.Common.{◌≡◌, ℕ, ◌<◌, ◌≤◌, Bool, true, false, cond, not, ◌&&◌, ◌||◌, eqb, ltb, leb, ◌⊎◌, Some, None, Option, sym, refl, ap, ◌∙◌, subst, inl, inr, arith}
+use Rattle.std.proofs.Common.{◌≡◌, ℕ, ◌<◌, ◌≤◌, Bool, true, false, not, ◌&&◌, ◌||◌, eqb, ltb, leb, ◌⊎◌, Some, None, Option, refl, subst, inl, inr, arith}
 use Rattle.std.proofs.lemmas.Bool.{eqb-true, leb-true, ltb-true, both_ways, and_parts, or_cases}
 use Rattle.terms.specs.declared.setup.CellKind.{CellKind}
 use Rattle.terms.specs.declared.setup.CellKind.TheVariants.{Plain, Bundled, Asynchronous}
@@ -11,7 +11,7 @@ use Rattle.rules.proofs.Keeping.{Fields}
 use Rattle.runs.specs.Runs.{Accepted}
 use Rattle.runs.proofs.Questions.{all_yes}
 use Rattle.standard.specs.Ts36321 as ts
-use Rattle.standard.proofs.Granting.{Proper, ProperIf}
+use Rattle.standard.proofs.Granting.{ProperIf}
 use Rattle.standard.proofs.Totality.{Known, KnownIf}
 
 -- configured grants go with a plain cell

@@ -1,20 +1,17 @@
 -- The HARQ process: what the relations make of a request, the rules make of it.
-use Rattle.std.proofs.Common.{◌≡◌, ℕ, zero, suc, ◌+◌, ◌-◌, ◌%◌, ◌<◌, ◌≤◌, Bool, true, false, cond, not, ◌&&◌, ◌||◌, eqb, leb, ◌⊎◌, List, length, Some, None, Option, unwrap_or, sym, refl, ap, ◌∙◌, subst, ap₂, inl, inr, arith}
+use Rattle.std.proofs.Common.{◌≡◌, ℕ, zero, suc, ◌+◌, ◌-◌, ◌%◌, ◌<◌, ◌≤◌, Bool, true, false, cond, not, ◌&&◌, ◌||◌, eqb, leb, List, length, Some, None, Option, unwrap_or, sym, refl, ap, ◌∙◌, subst, ap₂, arith}
 use Rattle.std.proofs.lemmas.Bool.{le-leb, lt-leb, eq-eqb, ne_eqb, both_ways, and_from, and_left}
 use Rattle.terms.specs.declared.setup.CellKind.{CellKind}
 use Rattle.terms.specs.declared.setup.CellKind.TheVariants.{Plain, Bundled, Asynchronous}
 use Rattle.terms.specs.declared.setup.Setup.{Setup}
 use Rattle.terms.specs.declared.grant.GrantInForce.{GrantInForce}
-use Rattle.terms.specs.declared.process.Feedback.{Feedback}
-use Rattle.terms.specs.declared.process.Feedback.TheVariants.{Nack, Ack}
 use Rattle.terms.specs.declared.process.Process.{Process}
 use Rattle.terms.specs.declared.version.Irv.{Irv}
-use Rattle.terms.specs.declared.version.RedundancyVersion.{RedundancyVersion}
 use Rattle.terms.specs.Versions.{version_at, index_of}
 use Rattle.terms.specs.Sendings.{Sending}
-use Rattle.rules.specs.Memory.{part, written}
+use Rattle.rules.specs.Memory.{part}
 use Rattle.rules.specs.Process.{synchronous, is_ack, granted_version, first_index, reference_set, renewed, counted, adapted, repeated, on_air, advanced, maximum, gives_up, flushed, transmitted}
-use Rattle.rules.specs.Entity.{Course, rests, begins, again, work_of, memory_after}
+use Rattle.rules.specs.Entity.{Course, work_of, memory_after}
 use Rattle.rules.specs.Subframe.{concluded, sending_by, sending_if, sending}
 use Rattle.rules.specs.Invariant.{Bounds}
 use Rattle.runs.proofs.Amends.{none_some, some_inj}

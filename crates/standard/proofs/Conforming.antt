@@ -1,5 +1,5 @@
 -- Whole runs: the relations let a cell's run go as it went, and in no other way.
-use Rattle.std.proofs.Common.{◌≡◌, ℕ, ◌<◌, ◌≤◌, Bool, true, false, eqb, List, [], ◌∷◌, ◌++◌, length, Some, None, Ok, Err, Option, Result, unwrap_or, sym, refl, ap, ◌∙◌, subst, append-nil, arith}
+use Rattle.std.proofs.Common.{◌≡◌, ℕ, ◌<◌, ◌≤◌, Bool, List, [], ◌∷◌, ◌++◌, length, Some, None, Ok, Err, Option, Result, unwrap_or, sym, refl, ap, ◌∙◌, subst, arith}
 use lib.ListN.{get_or-replicate}
 use Rattle.std.proofs.lemmas.Bool.{eqb-true}
 use Rattle.terms.specs.declared.answer.Refusal.{Refusal}
@@ -10,12 +10,11 @@ use Rattle.rules.specs.Memory.{written}
 use Rattle.rules.specs.Process.{idle}
 use Rattle.rules.specs.Entity.{process_at}
 use Rattle.rules.specs.Setup.{first_no}
-use Rattle.rules.specs.Questions.{questioned, subframe_questions}
+use Rattle.rules.specs.Questions.{questioned}
 use Rattle.rules.specs.Subframe.{Done, deposits, subframe_done, unless_refused}
-use Rattle.rules.specs.Msg3.{Left, deposit_questions, deposit_done, withdrawal_questions, withdrawal_done, left_unless_refused, with_msg3}
-use Rattle.rules.specs.Invariant.{Sound}
+use Rattle.rules.specs.Msg3.{deposit_questions, deposit_done, withdrawal_questions, withdrawal_done, left_unless_refused, with_msg3}
 use Rattle.rules.proofs.Keeping.{sound_fresh, bounds_asked, admitted}
-use Rattle.runs.specs.Runs.{World, Brought, Call, subframe_call, deposit_call, withdrawal_call, given, Step, count_after, subframe_step, msg3_step, called, step_of, step, world_after, Past, set_up_world, world_now, Accepted}
+use Rattle.runs.specs.Runs.{World, Brought, Call, subframe_call, deposit_call, withdrawal_call, given, Step, count_after, subframe_step, msg3_step, step_of, world_after, Past, set_up_world, world_now, Accepted}
 use Rattle.runs.proofs.Amends.{none_some}
 use Rattle.runs.proofs.Memory.{part_written, part_other}
 use Rattle.runs.proofs.Questions.{all_yes, within_low, within_high}

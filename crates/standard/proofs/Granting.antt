@@ -1,7 +1,7 @@
 -- Grant reception: what the relations deliver is the grant in force, and the process that they identify is the cell's.
-use Rattle.std.proofs.Common.{◌≡◌, ℕ, zero, suc, ◌+◌, ◌-◌, ◌*◌, ◌/◌, ◌%◌, ◌<◌, ◌≤◌, Bool, true, false, cond, not, ◌&&◌, ◌||◌, eqb, ltb, leb, ◌⊎◌, List, Some, None, Ok, Option, sym, refl, ap, ◌∙◌, subst, inl, inr, suc-mul, div-add-mod', arith}
+use Rattle.std.proofs.Common.{◌≡◌, ℕ, zero, suc, ◌+◌, ◌-◌, ◌*◌, ◌/◌, ◌%◌, ◌<◌, ◌≤◌, Bool, true, false, cond, ltb, ◌⊎◌, Some, None, Option, sym, refl, ap, ◌∙◌, subst, inl, inr, suc-mul, div-add-mod', arith}
 use native.Mathlib.Nat.{mul-mod_left}
-use Rattle.std.proofs.lemmas.Bool.{eqb-true, ltb-true, ltb-false, leb-true, eq-eqb, lt-ltb, le-ltb, both_ways, and_from, and_parts, or_cases}
+use Rattle.std.proofs.lemmas.Bool.{eqb-true, ltb-true, ltb-false, eq-eqb, lt-ltb, and_from, and_parts}
 use Rattle.terms.specs.declared.setup.CellKind.{CellKind}
 use Rattle.terms.specs.declared.setup.CellKind.TheVariants.{Plain, Bundled, Asynchronous}
 use Rattle.terms.specs.declared.setup.Setup.{Setup}
@@ -9,12 +9,11 @@ use Rattle.terms.specs.declared.grant.Grant.{Grant}
 use Rattle.terms.specs.declared.grant.GrantInForce.{GrantInForce}
 use Rattle.terms.specs.declared.grant.ConfiguredGrant.{ConfiguredGrant}
 use Rattle.terms.specs.declared.state.Repetition.{Repetition}
-use Rattle.rules.specs.Process.{synchronous}
 use Rattle.rules.specs.Reception.{recurs, recurring, grant_in_force, stored_after}
 use Rattle.rules.specs.Entity.{process_of, repeating}
 use Rattle.runs.proofs.Amends.{none_some, some_inj}
 use Rattle.standard.specs.Ts36321 as ts
-use Rattle.standard.proofs.Likeness.{in_force, in_force_if, stored_one, stored_as, BundledAlike, Owns}
+use Rattle.standard.proofs.Likeness.{in_force_if, stored_one, stored_as, BundledAlike, Owns}
 
 -- The configured grant recurs where it occurs.
 positive_product : (n i : ℕ) → 0 < n → 0 < i → 0 < n * i

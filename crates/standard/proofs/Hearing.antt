@@ -1,18 +1,18 @@
 -- The HARQ feedback of a TTI: what the relations make of it, the answer makes of the cell's processes.
-use Rattle.std.proofs.Common.{◌≡◌, ℕ, ◌+◌, ◌<◌, Bool, true, false, cond, ◌⊎◌, List, length, set, Some, None, Option, sym, refl, ap, ◌∙◌, subst, inl, inr, arith, get_or-set_other, get_or-set_same}
+use Rattle.std.proofs.Common.{◌≡◌, ℕ, ◌+◌, ◌<◌, Bool, true, false, cond, ◌⊎◌, List, length, Some, None, Option, sym, refl, ap, ◌∙◌, subst, inl, inr, arith, get_or-set_other, get_or-set_same}
 use Rattle.std.proofs.lemmas.Bool.{both_ways, cases_eq}
 use Rattle.terms.specs.declared.setup.CellKind.{CellKind}
 use Rattle.terms.specs.declared.setup.CellKind.TheVariants.{Plain, Bundled, Asynchronous}
 use Rattle.terms.specs.declared.setup.Setup.{Setup}
 use Rattle.terms.specs.declared.process.Feedback.{Feedback}
-use Rattle.terms.specs.declared.process.Feedback.TheVariants.{Nack, Ack}
+use Rattle.terms.specs.declared.process.Feedback.TheVariants.{Ack}
 use Rattle.terms.specs.declared.process.Process.{Process}
 use Rattle.rules.specs.Process.{idle, synchronous, hears, with_feedback, feedback_heard}
 use Rattle.rules.specs.Entity.{process_at, answering}
 use Rattle.rules.specs.Subframe.{heard_at}
 use Rattle.runs.proofs.Amends.{none_some, some_inj}
 use Rattle.standard.specs.Ts36321 as ts
-use Rattle.standard.proofs.Likeness.{Due, Falls, Like, due_now, now_due, due_kept, due_over}
+use Rattle.standard.proofs.Likeness.{Due, Like, due_now, now_due, due_kept, due_over}
 
 module _ (kd : CellKind) (t : ℕ) (gap : Bool) (a : Option Feedback) (ps : List Process) (k : ℕ) (eight : length ps ≡ 8) (lt : k < 8) where
   abbrev before : Process

@@ -1,10 +1,9 @@
 -- A TTI: what the relations have the MAC entity transmit is what the cell sends, and they stay alike.
-use Rattle.std.proofs.Common.{◌≡◌, ℕ, ◌+◌, ◌*◌, ◌<◌, ◌≤◌, Bool, true, false, cond, not, ◌&&◌, ◌||◌, eqb, ltb, leb, ◌⊎◌, List, length, take, drop, set, Some, None, Ok, Err, Option, Result, unwrap_or, sym, refl, ap, ◌∙◌, subst, inl, inr, arith, length-drop, length-set, length-take-le, get_or-set_other, get_or-set_same}
-use Rattle.std.proofs.lemmas.Bool.{eqb-true, eq-eqb, ne_eqb, leb-true, ltb-true, both_ways, and_parts, or_cases, cases_eq}
+use Rattle.std.proofs.Common.{◌≡◌, ℕ, ◌+◌, ◌*◌, ◌<◌, ◌≤◌, Bool, true, false, cond, ◌&&◌, eqb, leb, ◌⊎◌, List, length, drop, set, Some, None, Ok, Option, unwrap_or, sym, refl, ap, ◌∙◌, subst, inl, inr, arith, length-drop, length-set, length-take-le, get_or-set_other, get_or-set_same}
+use Rattle.std.proofs.lemmas.Bool.{eqb-true, eq-eqb, ne_eqb, leb-true, and_parts, cases_eq}
 use Rattle.terms.specs.declared.setup.CellKind.{CellKind}
 use Rattle.terms.specs.declared.setup.CellKind.TheVariants.{Plain, Bundled, Asynchronous}
 use Rattle.terms.specs.declared.setup.Setup.{Setup}
-use Rattle.terms.specs.declared.grant.Grant.{Grant}
 use Rattle.terms.specs.declared.grant.Reception.{Reception}
 use Rattle.terms.specs.declared.grant.Reception.TheVariants.{CRnti, TemporaryCRnti, SpsRetransmission, Configured, RandomAccessResponse}
 use Rattle.terms.specs.declared.grant.GrantInForce.{GrantInForce}
@@ -14,27 +13,26 @@ use Rattle.terms.specs.declared.state.Repetition.{Repetition}
 use Rattle.terms.specs.declared.state.State.{State}
 use Rattle.terms.specs.declared.decision.Decision.{Decision}
 use Rattle.terms.specs.declared.decision.Decision.TheVariants as decision
-use Rattle.terms.specs.declared.decision.Work.{Work}
 use Rattle.terms.specs.Sendings.{Sending}
 use Rattle.rules.specs.Memory.{part}
-use Rattle.rules.specs.Process.{idle, synchronous}
-use Rattle.rules.specs.Reception.{grant_in_force, stored_after, referred}
-use Rattle.rules.specs.Entity.{process_at, process_of, answering, decided, Fresh, msg3_taken, offered, obtained_by, Course, rests, begins, again, course, work_of, memory_after}
-use Rattle.rules.specs.Setup.{within, is_plain, set_up_questions, first_no}
-use Rattle.rules.specs.Questions.{questioned, kind_allowed, fields_by_kind, is_bundled}
+use Rattle.rules.specs.Process.{idle}
+use Rattle.rules.specs.Reception.{stored_after, referred}
+use Rattle.rules.specs.Entity.{process_at, process_of, answering, decided, msg3_taken, offered, obtained_by, Course, rests, begins, again, course, work_of, memory_after}
+use Rattle.rules.specs.Setup.{within}
+use Rattle.rules.specs.Questions.{questioned}
 use Rattle.rules.specs.Subframe.{Done, heard_at, heard, with_configured, concluded, repetition_by, repetition_after, turn_done, subframe_done}
 use Rattle.rules.specs.Invariant.{Good, Sound, SizedGrant, NamedBelow, FreshSized, Obtains}
-use Rattle.rules.proofs.Keeping.{good_referred, good_concluded, sized_in_force, named_in_force, process_bound, sound_heard, sound_stored, sane, loaded_work, sound_finished, sound_moved, repeated_after, Fields, Admitted, admitted}
+use Rattle.rules.proofs.Keeping.{good_referred, good_concluded, sized_in_force, named_in_force, process_bound, sound_heard, sound_stored, sane, loaded_work, sound_finished, sound_moved, repeated_after, Admitted, admitted}
 use Rattle.runs.specs.Runs.{World, Brought, fitting_packet, fitting, given, count_after}
 use Rattle.runs.proofs.Amends.{none_some, some_inj}
 use Rattle.runs.proofs.Memory.{part_other}
 use Rattle.standard.specs.Ts36321 as ts
 use Rattle.standard.specs.Conformance.{TtiOf}
-use Rattle.standard.proofs.Likeness.{held_in, Owns, Like, in_force, in_force_if, stored_as, BundledAlike, Alike}
+use Rattle.standard.proofs.Likeness.{held_in, Like, in_force_if, BundledAlike, Alike}
 use Rattle.standard.proofs.Hearing.{like_heard}
 use Rattle.standard.proofs.Granting.{Delivered, delivers_sound, Proper, ProperIf, identifies_sound, none_identified, owns}
 use Rattle.standard.proofs.Requesting.{notes_sound, Matches, requests_sound}
-use Rattle.standard.proofs.Carrying.{Short, synchronous_true, Carried, carries_sound}
+use Rattle.standard.proofs.Carrying.{Short, Carried, carries_sound}
 
 -- Sizes.
 abbrev pub Sized : List ℕ → Type 0

@@ -1,17 +1,16 @@
 -- The HARQ entity: what the relations request of a process, the rules have it do.
-use Rattle.std.proofs.Common.{◌≡◌, ℕ, ◌<◌, Bool, true, false, cond, not, ◌&&◌, ◌||◌, eqb, ltb, ◌⊎◌, List, length, is_some, Some, None, Option, sym, refl, ap, ◌∙◌, subst, inl, inr, arith}
+use Rattle.std.proofs.Common.{◌≡◌, ℕ, Bool, true, false, not, eqb, ltb, ◌⊎◌, List, length, is_some, Some, None, Option, sym, refl, ap, ◌∙◌, inl, inr, arith}
 use Rattle.std.proofs.lemmas.Bool.{eqb-false, ltb-true, lt-ltb, ne_eqb, both_ways, and_from, and_parts, or_cases, or_left, or_right, not-true, not_from_false}
 use Rattle.terms.specs.declared.answer.Outcome.{Outcome}
 use Rattle.terms.specs.declared.answer.Outcome.TheVariants.{Idle, EmptyBuffer, NoPacket}
 use Rattle.terms.specs.declared.setup.Setup.{Setup}
 use Rattle.terms.specs.declared.grant.Reception.{Reception}
-use Rattle.terms.specs.declared.grant.Reception.TheVariants.{CRnti, TemporaryCRnti, SpsRetransmission, Configured, RandomAccessResponse}
 use Rattle.terms.specs.declared.process.Feedback.{Feedback}
 use Rattle.terms.specs.declared.process.Feedback.TheVariants.{Nack, Ack}
 use Rattle.terms.specs.declared.process.Process.{Process}
 use Rattle.rules.specs.Process.{is_ack, holds_packet, renewed, adapted, repeated}
 use Rattle.rules.specs.Reception.{reference_kept, with_reference, referred}
-use Rattle.rules.specs.Entity.{toggled, wants_new, spares, decided_by, decided, Fresh, msg3_taken, offered, obtained_by, Course, rests, begins, again, begun, course}
+use Rattle.rules.specs.Entity.{toggled, wants_new, spares, decided_by, decided, msg3_taken, offered, obtained_by, Course, rests, begins, again, begun, course}
 use Rattle.runs.proofs.Amends.{none_some, some_inj}
 use Rattle.standard.specs.Ts36321 as ts
 use Rattle.standard.proofs.Likeness.{held_in, reference, Like, reception, in_force, in_force_if}

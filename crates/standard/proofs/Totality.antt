@@ -1,6 +1,6 @@
 -- The relations decide every TTI of a cell: there is always something that the MAC entity is to do.
-use Rattle.std.proofs.Common.{◌≡◌, ℕ, zero, suc, ◌+◌, ◌-◌, ◌%◌, ◌<◌, ◌≤◌, Bool, true, false, cond, not, ◌&&◌, ◌||◌, eqb, ltb, leb, ◌⊎◌, List, Some, None, Option, sym, refl, ap, ◌∙◌, subst, inl, inr, arith}
-use Rattle.std.proofs.lemmas.Bool.{eqb-true, leb-true, ltb-true, both_ways, and_parts, or_cases, cases_eq, cases_lt}
+use Rattle.std.proofs.Common.{◌≡◌, ℕ, zero, suc, ◌+◌, ◌-◌, ◌%◌, ◌<◌, ◌≤◌, Bool, true, false, ◌⊎◌, List, Some, None, Option, sym, refl, ap, ◌∙◌, subst, inl, inr, arith}
+use Rattle.std.proofs.lemmas.Bool.{both_ways, cases_eq, cases_lt}
 use Rattle.terms.specs.declared.setup.CellKind.{CellKind}
 use Rattle.terms.specs.declared.setup.CellKind.TheVariants.{Plain, Bundled, Asynchronous}
 use Rattle.terms.specs.declared.setup.Setup.{Setup}
@@ -14,7 +14,7 @@ use Rattle.rules.specs.Reception.{recurs}
 use Rattle.runs.proofs.Amends.{none_some, some_inj}
 use Rattle.standard.specs.Ts36321 as ts
 use Rattle.standard.proofs.Likeness.{stored_one, stored_as, BundledAlike}
-use Rattle.standard.proofs.Granting.{occurs_recurs, recurs_occurs, Proper, ProperIf, Identified, identified}
+use Rattle.standard.proofs.Granting.{occurs_recurs, recurs_occurs, ProperIf, Identified, identified}
 
 abbrev Decided : Type 0 → Type 0
 Decided A = A ⊎ (A → ⊥)

@@ -1,5 +1,5 @@
 -- The redundancy version sequence 0, 2, 3, 1.
-use Rattle.std.specs.Prelude.{ℕ, ◌+◌, ◌%◌, cond, ◌==◌}
+use Rattle.std.specs.Prelude.{◌+◌, ◌%◌, cond, ◌==◌}
 use Rattle.terms.specs.declared.version.Irv.{Irv}
 use Rattle.terms.specs.declared.version.RedundancyVersion.{RedundancyVersion}
 

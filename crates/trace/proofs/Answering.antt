@@ -1,12 +1,11 @@
 -- The answers so far and those still to come are all answers.
-use Rattle.std.proofs.Common.{◌≡◌, ℕ, List, [], ◌∷◌, ◌++◌, Ok, Err, Result, sym, refl, ap, ◌∙◌, append_assoc}
+use Rattle.std.proofs.Common.{◌≡◌, ℕ, List, [], ◌∷◌, ◌++◌, Ok, Err, sym, ap, ◌∙◌, append_assoc}
 use Rattle.std.proofs.lemmas.List.{append-nil}
 use Rattle.terms.specs.declared.answer.Refusal.{Refusal}
-use Rattle.terms.specs.declared.setup.Setup.{Setup}
 use Rattle.terms.specs.declared.state.State.{State}
 use Rattle.rules.specs.Setup.{fresh_state}
 use Rattle.frames.specs.Frames.{reads}
-use Rattle.trace.specs.Standing.{Standing, Equipment, equipped, at_first, answered}
+use Rattle.trace.specs.Standing.{Standing, equipped, at_first, answered}
 use Rattle.trace.specs.Texts.{refusal_text, setup_text}
 use Rattle.trace.specs.Answers.{text_of, answers_from, answers_by, answers_before}
 use Rattle.trace.specs.Sessions.{equipment_of, opened}

@@ -1,5 +1,5 @@
 -- A set-up, and a subframe call over a book.
-use Rattle.std.proofs.Common.{◌≡◌, ℕ, Bool, List, Some, None, Ok, Err, Option, Result, sym, refl, ap, ◌∙◌, arith}
+use Rattle.std.proofs.Common.{◌≡◌, ℕ, List, Some, None, Ok, Err, Option, Result, sym, refl, ap, ◌∙◌, arith}
 use Rattle.terms.specs.declared.answer.Refusal.{Refusal}
 use Rattle.terms.specs.declared.answer.Reply.{Reply}
 use Rattle.terms.specs.declared.setup.Setup.{Setup}
@@ -9,14 +9,14 @@ use Rattle.terms.specs.declared.process.Feedback.{Feedback}
 use Rattle.ports.specs.Radio.{Radioed, has_room}
 use Rattle.ports.specs.Source.{source_after}
 use Rattle.rules.specs.Setup.{fresh_state}
-use Rattle.rules.specs.Subframe.{Given, Done, subframe}
+use Rattle.rules.specs.Subframe.{Done, subframe}
 use Rattle.below.specs.declared.book.Book.{Book}
 use Rattle.below.specs.Book.{left, left_offers, left_used, left_after, book_offers, book_used}
 use Rattle.below.specs.Pattern.{gaps_of}
 use Rattle.below.proofs.Records.{left_source_after}
 use Rattle.cell.specs.Calls.{After, after_result, after_subframe}
 use Rattle.cell.specs.Cells.{with_fresh_state}
-use Rattle.trace.specs.Standing.{Standing, Answered, Equipment, admitted_by, replied, after_answer, called}
+use Rattle.trace.specs.Standing.{Standing, Answered, admitted_by, replied, after_answer, called}
 use Rattle.trace.specs.declared.session.Answer.{Answer}
 
 -- a set-up that was refused, and one that was accepted

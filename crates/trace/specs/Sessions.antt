@@ -2,8 +2,6 @@
 use Rattle.std.specs.Prelude.{◌≡◌, ℕ, ◌^◌, List, replicate, None, Ok, Err, Result}
 use Rattle.terms.specs.declared.answer.Refusal.{Refusal}
 use Rattle.rules.specs.Setup.{fresh_state}
-use Rattle.terms.specs.declared.setup.Setup.{Setup}
-use Rattle.terms.specs.declared.state.State.{State}
 use Rattle.below.specs.Book.{left}
 use Rattle.below.specs.Mailbox.{mailbox_radioed}
 use Rattle.trace.specs.Standing.{Standing, Equipment}

@@ -1,5 +1,5 @@
 -- Where a trace stands, and what a line does there.
-use Rattle.std.specs.Prelude.{ℕ, ◌^◌, Bool, List, [], replicate, Some, None, Ok, Err, Option, Result}
+use Rattle.std.specs.Prelude.{ℕ, ◌^◌, List, replicate, None, Ok, Err, Option, Result}
 use Rattle.terms.specs.declared.answer.Refusal.{Refusal}
 use Rattle.terms.specs.declared.answer.Refusal.TheVariants.{NotFrame}
 use Rattle.terms.specs.declared.answer.Reply.{Reply}

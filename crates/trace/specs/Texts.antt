@@ -1,5 +1,5 @@
 -- The text of an answer: each line is bytes in hexadecimal and a line feed.
-use Rattle.std.specs.Prelude.{ℕ, Bool, cond, List, [], ◌∷◌, ◌++◌, Some, None, Option}
+use Rattle.std.specs.Prelude.{ℕ, cond, List, [], ◌∷◌, ◌++◌, Some, None, Option}
 use Rattle.terms.specs.Numbers.{outcome_number, refusal_number}
 use Rattle.terms.specs.Sendings.{Sending}
 use Rattle.terms.specs.declared.answer.Outcome.{Outcome}

@@ -175,7 +175,9 @@ fn tally_and_latest(rt: HostRuntime) -> Result<(), Fail> {
         return Err(Fail::new("nothing was sent"));
     };
     assert!(rt; latest.subframe == 16 && latest.process == 0 && latest.version.0 == 3);
-    assert!(rt; latest.mcs == 5 && latest.resource == 7 && latest.packet == [0xa1, 0xb2].as_slice());
+    assert!(rt;
+        latest.mcs == 5 && latest.resource == 7 && latest.packet == [0xa1, 0xb2].as_slice()
+    );
     Ok(())
 }
 

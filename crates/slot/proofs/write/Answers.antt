@@ -1,7 +1,7 @@
 use Rattle.std.proofs.Common.{length, ◌∙◌, arith, rules}
 use Rattle.terms.specs.Sendings.{sending_of}
 use Rattle.slot.specs.Slots.{heading, slot_of}
-use Rattle.slot.proofs.Coding.{written, length_heading, packet_bounds}
+use Rattle.slot.proofs.Coding.{written, length_heading}
 use Rattle.slot.proofs.write.Goals as goal
 
 pub returns : goal.returns

@@ -1,4 +1,4 @@
-use Rattle.std.proofs.Common.{◌≡◌, arith, rules}
+use Rattle.std.proofs.Common.{rules}
 use Rattle.frames.proofs.Spelling.{no_room_for_digits, no_room_for_bytes, stays, spells}
 use Rattle.frames.proofs.write.spell.Goals as goal
 

@@ -1,5 +1,3 @@
-use Rattle.std.proofs.Common.{◌≡◌, ℕ, List, vec_items}
-use Rattle.trace.specs.Answers.{answers}
 use Rattle.trace.proofs.Appending.{front}
 use Rattle.trace.proofs.answer.answer.Goals as goal
 

@@ -1,4 +1,4 @@
-use Rattle.std.proofs.Common.{◌≡◌, ◌++◌, vec_items, sym, ap, ◌∙◌, rules}
+use Rattle.std.proofs.Common.{◌≡◌, ◌++◌, vec_items, ap, ◌∙◌, rules}
 use Rattle.terms.specs.Sendings.{sending_of, told_of}
 use Rattle.trace.specs.Texts.{reply_bytes, line_text, slot_text, sent_text}
 use Rattle.trace.proofs.Appending.{then}
