@@ -1,7 +1,7 @@
 -- What an amendment of the stay that goes on in a process leaves.
 use Rattle.std.proofs.Common.{◌≡◌, ℕ, suc, ◌+◌, ◌*◌, Bool, true, false, cond, not, ◌&&◌, eqb, ◌≢◌, ◌⊎◌, List, [], ◌∷◌, length, is_some, Some, None, Option, sym, refl, ap, ◌∙◌, ap₂, inl, inr, arith}
 use Rattle.std.proofs.lemmas.Bool.{eqb-true, eq-eqb, ne_eqb, both_ways, and_parts, and_cases}
-use Rattle.std.specs.List.{AllByRecursion as All}
+use Rattle.std.specs.List.{AllByRecursion}
 use Rattle.rules.specs.Subframe.{one_if}
 use Rattle.runs.specs.Stays.{Stay, goes_on, amend, total}
 
@@ -53,7 +53,7 @@ goings k [] = 0
 goings k (s ∷ ss) = one_if (goes_on k s) + goings k ss
 
 module _ (k : ℕ) (f : Stay → Stay) where
-  pub all_amended : (P P' : Stay → Type 0) → ((s : Stay) → goes_on k s ≡ true → P s → P' (f s)) → ((s : Stay) → goes_on k s ≡ false → P s → P' s) → (ss : List Stay) → All P ss → All P' (amend k f ss)
+  pub all_amended : (P P' : Stay → Type 0) → ((s : Stay) → goes_on k s ≡ true → P s → P' (f s)) → ((s : Stay) → goes_on k s ≡ false → P s → P' s) → (ss : List Stay) → AllByRecursion P ss → AllByRecursion P' (amend k f ss)
   all_amended P P' h h' [] a = tt
   all_amended P P' h h' (s ∷ ss) a = (go (goes_on k s) refl, all_amended P P' h h' ss a.1)
     where

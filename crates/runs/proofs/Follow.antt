@@ -1,7 +1,7 @@
 -- What one subframe of a process leaves of the stays.
 use Rattle.std.proofs.Common.{◌≡◌, ℕ, ◌+◌, ◌*◌, ◌<◌, ◌≤◌, Bool, true, false, cond, not, ◌&&◌, eqb, ltb, ◌≢◌, ◌⊎◌, List, [], ◌∷◌, ◌++◌, length, set, is_some, Some, None, Option, unwrap_or, sym, refl, ap, ◌∙◌, subst, ap₂, inl, inr, zero-add, arith, length-set, get_or-set_other, get_or-set_same}
 use Rattle.std.proofs.lemmas.Bool.{eq-eqb, ne_eqb, both_ways, and_parts, cases_eq}
-use Rattle.std.specs.List.{AllByRecursion as All}
+use Rattle.std.specs.List.{AllByRecursion}
 use Rattle.terms.specs.declared.answer.Outcome.{Outcome}
 use Rattle.terms.specs.declared.answer.Outcome.TheVariants.{Idle, NoPacket}
 use Rattle.terms.specs.declared.setup.Setup.{Setup}
@@ -68,7 +68,7 @@ AllOrdered t met = (j : ℕ) → j < 8 → Ordered t (met j)
 
 pub record Followed (su : Setup) (st : State) (m : List ℕ) (l : Log) (met : ℕ → List Met) (d : Done) (l' : Log) : Type 0 where
   pub eight : length d.state.processes ≡ 8
-  pub good : All (Good su (scene d.state d.memory (met_with d.events met))) l'.stays
+  pub good : AllByRecursion (Good su (scene d.state d.memory (met_with d.events met))) l'.stays
   pub one : One d.state.processes l'.stays
   pub ordered : AllOrdered (st.clock + 1) (met_with d.events met)
   pub deposited : l'.deposited ≡ l.deposited
@@ -211,7 +211,7 @@ end_or_none true t o e = refl
 end_or_none false t o e = e
 
 module _ (su : Setup) (st : State) (m : List ℕ) (gap : Bool) (g : Option GrantInForce) (k : ℕ) (l : Log) (met : ℕ → List Met)
-    (eight : length st.processes ≡ 8) (lt : k < 8) (good : All (Good su (scene st m met)) l.stays) (one : One st.processes l.stays)
+    (eight : length st.processes ≡ 8) (lt : k < 8) (good : AllByRecursion (Good su (scene st m met)) l.stays) (one : One st.processes l.stays)
     (ordered : AllOrdered (st.clock + 1) met) where
   -- the process once the grant in force is known
   abbrev ready : Process
@@ -232,7 +232,7 @@ module _ (su : Setup) (st : State) (m : List ℕ) (gap : Bool) (g : Option Grant
       Change k (subframe_met st.clock g gap starve) (scene st m met) c'
       → ((s : Stay) → goes_on k s ≡ true → Good su (scene st m met) s → carried_out su s.beginning st.clock gap starve (decided su g ready) ready s.sendings ≡ record { process = p'; sendings = sent_if on x s.sendings; ended = end_if up st.clock })
       → ((s : Stay) → synchronous su.kind ≡ false → length s.sendings + left st.clock st.repetition k ≤ repetitions s → length (sent_if on x s.sendings) + left (st.clock + 1) r' k ≤ repetitions (amended (subframe_met st.clock g gap starve) on x up st.clock s))
-      → All (Good su c') (amend k (amended (subframe_met st.clock g gap starve) on x up st.clock) l.stays)
+      → AllByRecursion (Good su c') (amend k (amended (subframe_met st.clock g gap starve) on x up st.clock) l.stays)
   good_on starve p' r' on x up met' ch alone room = good_amended su k (subframe_met st.clock g gap starve) (scene st m met) c' ch (amended (subframe_met st.clock g gap starve) on x up st.clock) step l.stays good
     where
       c' : Scene

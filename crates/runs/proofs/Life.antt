@@ -1,7 +1,7 @@
 -- One stay by itself: its process, its sendings and its end are a function of its beginning and of what its process met since.
 use Rattle.std.proofs.Common.{◌≡◌, ℕ, ◌+◌, ◌<◌, ◌≤◌, Bool, true, false, cond, not, ◌&&◌, eqb, ltb, List, [], ◌∷◌, length, is_some, Some, None, Option, sym, refl, ap, ◌∙◌, subst, arith}
 use Rattle.std.proofs.lemmas.Bool.{eqb-false, both_ways, lt-ltb, le-ltb, ltb-true, ltb-false}
-use Rattle.std.specs.List.{AllByRecursion as All}
+use Rattle.std.specs.List.{AllByRecursion}
 use Rattle.terms.specs.declared.setup.CellKind.{CellKind}
 use Rattle.terms.specs.declared.setup.CellKind.TheVariants.{Plain, Bundled, Asynchronous}
 use Rattle.terms.specs.declared.setup.Setup.{Setup}
@@ -217,22 +217,22 @@ module _ (su : Setup) (b : Beginning) (sync : synchronous su.kind ≡ true) (som
 
 -- each sending is of the packet
 module _ (su : Setup) (b : Beginning) where
-  sent_carries : (on : Bool) (t : ℕ) (p : Process) (xs : List Sending) → All (Carries b) xs → All (Carries b) (sent_if on (sent_by t b p) xs)
+  sent_carries : (on : Bool) (t : ℕ) (p : Process) (xs : List Sending) → AllByRecursion (Carries b) xs → AllByRecursion (Carries b) (sent_if on (sent_by t b p) xs)
   sent_carries true t p xs h = ((refl, refl), h)
   sent_carries false t p xs h = h
 
-  carried_carries : (t : ℕ) (gap starved : Bool) (d : Decision) (p : Process) (xs : List Sending) → All (Carries b) xs → All (Carries b) (carried_out su b t gap starved d p xs).sendings
+  carried_carries : (t : ℕ) (gap starved : Bool) (d : Decision) (p : Process) (xs : List Sending) → AllByRecursion (Carries b) xs → AllByRecursion (Carries b) (carried_out su b t gap starved d p xs).sendings
   carried_carries t gap starved (decision.Rest o) p xs h = h
   carried_carries t gap starved (decision.New g) p xs h = h
   carried_carries t gap starved (decision.Adaptive g) p xs h = sent_carries (on_air false gap (adapted su g p)) t (adapted su g p) xs h
   carried_carries t gap starved decision.NonAdaptive p xs h = sent_carries (on_air (is_ack p.harq_feedback) gap (repeated su p)) t (repeated su p) xs h
 
-  lived_carries : (m : Met) (l : Life) → l.ended ≡ None → All (Carries b) l.sendings → All (Carries b) (lived su b m l).sendings
+  lived_carries : (m : Met) (l : Life) → l.ended ≡ None → AllByRecursion (Carries b) l.sendings → AllByRecursion (Carries b) (lived su b m l).sendings
   lived_carries (answer_met t a gap) l e h = h
   lived_carries (subframe_met t g gap starved) l e h = carried_carries t gap starved (decided su g (referred g l.process)) (referred g l.process) l.sendings h
 
-  pub life_carries : (gap : Bool) (ms : List Met) → All (Carries b) (life su b gap ms).sendings
-  life_carries gap ms = throughout su b gap (λ l. All (Carries b) l.sendings) (sent_carries (on_air false gap (first_process su b)) b.first (first_process su b) [] tt) lived_carries ms
+  pub life_carries : (gap : Bool) (ms : List Met) → AllByRecursion (Carries b) (life su b gap ms).sendings
+  life_carries gap ms = throughout su b gap (λ l. AllByRecursion (Carries b) l.sendings) (sent_carries (on_air false gap (first_process su b)) b.first (first_process su b) [] tt) lived_carries ms
 
 -- What was met stands in the order of the subframes, the latest first, all below t.
 abbrev pub Ordered : ℕ → List Met → Type 0

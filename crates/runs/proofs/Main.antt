@@ -3,7 +3,7 @@ use Rattle.std.proofs.Common.{◌≡◌, ℕ, ◌<◌, ◌≤◌, Bool, true, fa
 use lib.ListN.{get_or-replicate}
 use Rattle.std.proofs.lemmas.Bool.{both_ways}
 use Rattle.std.proofs.ByRecursion.{All-weaker}
-use Rattle.std.specs.List.{AllByRecursion as All}
+use Rattle.std.specs.List.{AllByRecursion}
 use Rattle.terms.specs.declared.setup.Setup.{Setup}
 use Rattle.rules.specs.Process.{idle, holds_packet, maximum}
 use Rattle.rules.specs.Entity.{process_at}
@@ -80,7 +80,7 @@ module _ (p : Past) (accepted : Accepted p.setup) where
       each : (s : Stay) → Good su now s → Kept su s
       each s g = record {
         packet_length = (g.born.some, g.born.short);
-        carried = subst (All (Carries s.beginning)) (sym g.sent) (life_carries su s.beginning s.gap ms);
+        carried = subst (AllByRecursion (Carries s.beginning)) (sym g.sent) (life_carries su s.beginning s.gap ms);
         from_deposit = g.born.deposit;
         synchronous_limit = λ z. subst (λ n. length s.sendings ≤ n) (maximum_by s.beginning.from_msg3) (subst (λ xs. length xs ≤ maximum su s.beginning.from_msg3) (sym g.sent) (life_limited su s.beginning z ((ready su accepted).tries s.beginning.from_msg3) s.gap ms).all);
         asynchronous_limit = g.room;
@@ -126,7 +126,7 @@ promise p a = record {
   kept = kept p a;
   alike = λ p' same.
       let a' : Accepted p'.setup = subst Accepted (sym same) a in
-      All-weaker (Good p.setup (now p a)) (λ s. All (Independent p p' s) (stays_of p'))
+      All-weaker (Good p.setup (now p a)) (λ s. AllByRecursion (Independent p p' s) (stays_of p'))
       (λ s g. All-weaker (Good p'.setup (now p' a')) (Independent p p' s) (λ s' g'. independent p a p' a' same s s' g g') (stays_of p') (sound p' a').0.good)
       (stays_of p) (sound p a).0.good;
 }

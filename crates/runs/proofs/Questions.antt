@@ -1,7 +1,7 @@
 -- What is known once the questions are answered by yes.
 use Rattle.std.proofs.Common.{◌≡◌, ℕ, ◌-◌, ◌/◌, ◌%◌, ◌<◌, ◌≤◌, Bool, true, false, cond, not, ◌&&◌, ◌||◌, eqb, ltb, leb, ◌⊎◌, List, [], ◌∷◌, length, Some, None, Ok, Err, Option, Result, sym, refl, ap, ◌∙◌, subst, inl, inr, arith}
 use Rattle.std.proofs.lemmas.Bool.{eqb-true, leb-true, ltb-true, both_ways, and_parts, or_cases, eq-eqb}
-use Rattle.std.specs.List.{AllByRecursion as All}
+use Rattle.std.specs.List.{AllByRecursion}
 use Rattle.terms.specs.declared.answer.Refusal.{Refusal}
 use Rattle.terms.specs.declared.setup.CellKind.{CellKind}
 use Rattle.terms.specs.declared.setup.CellKind.TheVariants.{Plain, Bundled, Asynchronous}
@@ -32,14 +32,14 @@ abbrev accepting : Result (Unit {0}) Refusal → Bool
 accepting (Ok u) = true
 accepting (Err e) = false
 
-pub all_yes : (qs : List (Bool × Refusal)) → first_no qs ≡ Ok tt → All Yes qs
+pub all_yes : (qs : List (Bool × Refusal)) → first_no qs ≡ Ok tt → AllByRecursion Yes qs
 all_yes [] e = tt
 all_yes (q ∷ qs) e = go q.0 refl (all_yes qs) e
   where
     refused : (r : Refusal) → ◌≡◌ {A = Result (Unit {0}) Refusal} (Err r) (Ok tt) → ⊥
     refused r e = both_ways false refl (ap accepting e)
 
-    go : (b : Bool) → q.0 ≡ b → (first_no qs ≡ Ok tt → All Yes qs) → cond b (first_no qs) (Err q.1) ≡ Ok tt → (q.0 ≡ true) × All Yes qs
+    go : (b : Bool) → q.0 ≡ b → (first_no qs ≡ Ok tt → AllByRecursion Yes qs) → cond b (first_no qs) (Err q.1) ≡ Ok tt → (q.0 ≡ true) × AllByRecursion Yes qs
     go true z ih e = (z, ih e)
     go false z ih e = absurd (refused q.1 e)
 
@@ -122,7 +122,7 @@ kind_interval su g e two = go (or_cases (eqb g.kind 0) _ e)
     go (inl q) = absurd (not_it 0 q (λ z. absurd (omega arith)))
     go (inr q) = other (or_cases ((eqb g.kind 2 || eqb g.kind 3) && ltb 0 su.interval) _ q)
 
-grant_facts : (su : Setup) (st : State) (g : Option Grant) → All Yes (grant_questions su st g) → GrantedBy su st.clock g
+grant_facts : (su : Setup) (st : State) (g : Option Grant) → AllByRecursion Yes (grant_questions su st g) → GrantedBy su st.clock g
 grant_facts su st None e = tt
 grant_facts su st (Some g) qs =
     let f₁ = and_parts (kind_allowed su g) _ qs.0 in

@@ -2,7 +2,7 @@
 use Rattle.std.proofs.Common.{◌≡◌, ℕ, ◌+◌, ◌%◌, ◌<◌, ◌≤◌, Bool, true, false, cond, ◌||◌, ◌≢◌, List, [], ◌∷◌, ◌++◌, length, set, is_some, Some, None, Ok, Err, Option, Result, sym, refl, ap, ◌∙◌, subst, ap₂, arith, length-set}
 use Rattle.std.proofs.lemmas.Bool.{eqb-true}
 use Rattle.std.proofs.ByRecursion.{All-weaker}
-use Rattle.std.specs.List.{AllByRecursion as All}
+use Rattle.std.specs.List.{AllByRecursion}
 use Rattle.terms.specs.declared.answer.Refusal.{Refusal}
 use Rattle.terms.specs.declared.setup.CellKind.{CellKind}
 use Rattle.terms.specs.declared.setup.CellKind.TheVariants.{Plain, Bundled, Asynchronous}
@@ -38,7 +38,7 @@ use Rattle.runs.proofs.Follow.{met_with, Grown, One, AllOrdered, Followed, own_p
 -- a world, what was written down of its events, and the surroundings of its processes; `n` is the radio's count at set-up
 pub record Sound (su : Setup) (n : ℕ) (w : World) (l : Log) (met : ℕ → List Met) : Type 0 where
   pub eight : length w.state.processes ≡ 8
-  pub good : All (Good su (scene w.state w.memory met)) l.stays
+  pub good : AllByRecursion (Good su (scene w.state w.memory met)) l.stays
   pub one : One w.state.processes l.stays
   pub ordered : AllOrdered w.state.clock met
   pub timed : Timed su.kind w.state.clock w.state.processes
@@ -73,7 +73,7 @@ passing_append f (deposits b ∷ es) fs = passing_append f es fs
 -- The answer.
 pub record Hearing (su : Setup) (st : State) (m : List ℕ) (l : Log) (met : ℕ → List Met) (ps' : List Process) (es : List Event) : Type 0 where
   pub eight : length ps' ≡ 8
-  pub good : All (Good su (record { processes = ps'; memory = m; repetition = st.repetition; clock = st.clock; met = met_with es met })) (recorded_all es l).stays
+  pub good : AllByRecursion (Good su (record { processes = ps'; memory = m; repetition = st.repetition; clock = st.clock; met = met_with es met })) (recorded_all es l).stays
   pub one : One ps' (recorded_all es l).stays
   pub ordered : AllOrdered (st.clock + 1) (met_with es met)
   pub deposited : (recorded_all es l).deposited ≡ l.deposited
@@ -83,7 +83,7 @@ pub record Hearing (su : Setup) (st : State) (m : List ℕ) (l : Log) (met : ℕ
   pub none : (f : Sending → Bool) → passing_of_run f es ≡ 0
 
 module _ (su : Setup) (st : State) (m : List ℕ) (l : Log) (met : ℕ → List Met) (gap : Bool) (a : Option Feedback)
-    (eight : length st.processes ≡ 8) (good : All (Good su (scene st m met)) l.stays) (one : One st.processes l.stays) (ordered : AllOrdered st.clock met) where
+    (eight : length st.processes ≡ 8) (good : AllByRecursion (Good su (scene st m met)) l.stays) (one : One st.processes l.stays) (ordered : AllOrdered st.clock met) where
   later : AllOrdered (st.clock + 1) met
   later j jlt = ordered_later st.clock (st.clock + 1) (met j) (omega arith) (ordered j jlt)
 
@@ -194,7 +194,7 @@ repetition_ok su t g r w ok h = go w
     go (work.Again p acked) = by su.kind refl g ok
 
 module _ (su : Setup) (st : State) (m : List ℕ) (gap : Bool) (offers : ℕ → Option (List ℕ)) (g : Option GrantInForce) (l : Log) (met : ℕ → List Met)
-    (eight : length st.processes ≡ 8) (good : All (Good su (scene st m met)) l.stays) (one : One st.processes l.stays) (ordered : AllOrdered (st.clock + 1) met)
+    (eight : length st.processes ≡ 8) (good : AllByRecursion (Good su (scene st m met)) l.stays) (one : One st.processes l.stays) (ordered : AllOrdered (st.clock + 1) met)
     (whole : length m ≡ 5805) (timed : TimedLater su.kind st.clock st.processes) (force : ForceOkIf su st.clock g) (stored : StoredOk su st.configured)
     (msg3 : Msg3Ok m l.deposited st.msg3) (repeats : RepetitionOk st.repetition) where
   turn_followed : (o : Option ℕ) → process_of su.kind st.clock g st.repetition ≡ o

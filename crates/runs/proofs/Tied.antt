@@ -1,7 +1,7 @@
 -- How processes, packet memory and repetitions are tied to the stays.
 use Rattle.std.proofs.Common.{◌≡◌, ℕ, ◌+◌, ◌-◌, ◌<◌, ◌≤◌, Bool, true, false, cond, eqb, ◌≢◌, ◌⊎◌, List, [], ◌∷◌, ◌++◌, length, set, is_some, Some, None, Option, sym, refl, ap, ◌∙◌, ap₂, inl, inr, arith}
 use Rattle.std.proofs.lemmas.Bool.{ne_eqb, both_ways, lt-ltb, cases_eq}
-use Rattle.std.specs.List.{AllByRecursion as All}
+use Rattle.std.specs.List.{AllByRecursion}
 use Rattle.terms.specs.declared.setup.CellKind.{CellKind}
 use Rattle.terms.specs.declared.setup.CellKind.TheVariants.{Plain, Bundled, Asynchronous}
 use Rattle.terms.specs.declared.setup.Setup.{Setup}
@@ -119,7 +119,7 @@ module _ (su : Setup) (k : ℕ) (x : Met) (c c' : Scene) (ch : Change k x c c') 
       ap (life su s.beginning s.gap) (met_more s h.process g.began)
       ∙ life_on su s.beginning s.gap x (met_after s.beginning.first (c.met s.beginning.process)) (sym g.over ∙ h.unended)
 
-  pub good_amended : (f : Stay → Stay) → ((s : Stay) → goes_on k s ≡ true → Good su c s → Good su c' (f s)) → (ss : List Stay) → All (Good su c) ss → All (Good su c') (amend k f ss)
+  pub good_amended : (f : Stay → Stay) → ((s : Stay) → goes_on k s ≡ true → Good su c s → Good su c' (f s)) → (ss : List Stay) → AllByRecursion (Good su c) ss → AllByRecursion (Good su c') (amend k f ss)
   good_amended f h = all_amended k f (Good su c) (Good su c') h rest
     where
       rest : (s : Stay) → goes_on k s ≡ false → Good su c s → Good su c' s

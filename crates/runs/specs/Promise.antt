@@ -1,6 +1,6 @@
 -- The promise: what holds of every past of a cell whose set-up was accepted.
 use Rattle.std.specs.Prelude.{◌≡◌, ℕ, ◌+◌, ◌≤◌, Bool, true, false, cond, List, length, Some}
-use Rattle.std.specs.List.{AllByRecursion as All}
+use Rattle.std.specs.List.{AllByRecursion}
 use Rattle.terms.specs.declared.setup.Setup.{Setup}
 use Rattle.terms.specs.Sendings.{Sending}
 use Rattle.rules.specs.Process.{synchronous}
@@ -35,7 +35,7 @@ Carries b x = (x.packet ≡ b.packet) × (x.process ≡ b.process)
 pub record Kept (su : Setup) (s : Stay) : Type 0 where
   pub packet_length : (1 ≤ length s.beginning.packet) × (length s.beginning.packet ≤ 645)
   -- every sending carries the packet as it was at the beginning
-  pub carried : All (Carries s.beginning) s.sendings
+  pub carried : AllByRecursion (Carries s.beginning) s.sendings
   -- a packet from Msg3 has the bytes of the last deposit
   pub from_deposit : s.beginning.from_msg3 ≡ true → s.deposited ≡ Some s.beginning.packet
   -- in a synchronous cell at most maxHARQ-Tx sendings, or maxHARQ-Msg3Tx of a packet from Msg3
@@ -66,11 +66,11 @@ Independent p p' s s' =
     → Alike s s' t
 
 abbrev pub AllKept : Past → Type 0
-AllKept p = All (Kept p.setup) (stays_of p)
+AllKept p = AllByRecursion (Kept p.setup) (stays_of p)
 
 -- with the stays of every other past of the same set-up
 abbrev pub AllAlike : Past → Type 0
-AllAlike p = (p' : Past) → p'.setup ≡ p.setup → All (λ (s : Stay). All (Independent p p' s) (stays_of p')) (stays_of p)
+AllAlike p = (p' : Past) → p'.setup ≡ p.setup → AllByRecursion (λ (s : Stay). AllByRecursion (Independent p p' s) (stays_of p')) (stays_of p)
 
 -- The promise of a past.
 pub record Promise (p : Past) : Type 0 where
