@@ -21,7 +21,7 @@ abbrev pub brought_over : Option Feedback → Option Grant → (ℕ → Bool) �
 brought_over a g gaps offers r = record { answer = a; grant = g; gaps = gaps; offers = offers; capacity = r.capacity }
 
 abbrev pub subframe_over : Option Feedback → Option Grant → (ℕ → Bool) → (ℕ → Option (List ℕ)) → Radioed → Call
-subframe_over a g gaps offers r = subframe_call (brought_over a g gaps offers r)
+subframe_over a g gaps offers r = subframe_call (record { answer = a; grant = g; gaps = gaps; offers = offers; capacity = r.capacity })
 
 -- What the radio found and the radio left differ by is what TS 36.321 has the MAC entity transmit in the subframe, and nothing else. A refused call is no
 -- subframe, and the radio is told nothing.

@@ -41,7 +41,7 @@ set_up_holds su = all_yes (set_up_questions su)
 
 -- the state at set-up
 abbrev pub fresh_state : ℕ → State
-fresh_state start = record { processes = replicate 8 idle; configured = None; repetition = None; msg3 = None; tally = record { packets = 0; sendings = 0; figure = 0 }; clock = start }
+fresh_state start = record { processes = replicate 8 idle; configured = None; repetition = None; msg3 = None; tally = record { packets = 0; sendings = 0 }; clock = start }
 
 abbrev pub accepted : Setup → Result (Unit {0}) Refusal → Result Setup Refusal
 accepted su (Ok u) = Ok su

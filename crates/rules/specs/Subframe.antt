@@ -140,7 +140,7 @@ finished st k r c = record {
   configured = st.configured;
   repetition = r;
   msg3 = st.msg3;
-  tally = record { packets = st.tally.packets + one_if c.begun; sendings = st.tally.sendings + one_if c.sent; figure = st.tally.figure };
+  tally = record { packets = st.tally.packets + one_if c.begun; sendings = st.tally.sendings + one_if c.sent };
   clock = st.clock + 1;
 }
 

@@ -18,7 +18,7 @@ use terms::answer::{Refusal, Reply};
 use terms::grant::Grant;
 use terms::instruction::Instruction;
 use terms::process::Feedback;
-use terms::tally::Tally;
+use terms::state::Tally;
 
 #[derive(Drop)]
 pub(crate) struct Ride<'a> {

@@ -1,13 +1,19 @@
 // What a cell keeps between calls, beside its set-up and its packet memory.
 use crate::grant::ConfiguredGrant;
 use crate::process::Process;
-use crate::tally::Tally;
 
 // The repetitions of an asynchronous grant: those of this process, in each subframe below this one.
 #[derive(Clone, Copy)]
 pub struct Repetition {
     pub process: u8,
     pub until: u64,
+}
+
+// Packets begun and sendings made since set-up.
+#[derive(Clone, Copy)]
+pub struct Tally {
+    pub packets: u64,
+    pub sendings: u64,
 }
 
 #[derive(Clone, Copy)]

@@ -1,10 +1,10 @@
-// What a cell has done since set-up.
+// The tally of a cabin, as the site call takes it.
 #[derive(Clone, Copy)]
 pub struct Tally {
     // packets begun
     pub packets: u64,
     // sendings made
     pub sendings: u64,
-    // sendings for each hundred packets: the site call writes it, and a cell leaves it at 0
+    // sendings for each hundred packets: the site call writes it
     pub figure: u64,
 }

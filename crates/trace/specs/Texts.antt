@@ -6,7 +6,7 @@ use Rattle.terms.specs.declared.answer.Outcome.{Outcome}
 use Rattle.terms.specs.declared.answer.Outcome.TheVariants.{Idle, EmptyBuffer, NoPacket, Sent, Gap, Acknowledged}
 use Rattle.terms.specs.declared.answer.Refusal.{Refusal}
 use Rattle.terms.specs.declared.answer.Reply.{Reply}
-use Rattle.slot.specs.Slots.{up_to_packet}
+use Rattle.slot.specs.Slots.{heading}
 use Rattle.hexadecimal.specs.Hex.{encoded}
 use Rattle.trace.specs.declared.session.Answer.{Answer}
 use Rattle.trace.specs.declared.session.Answer.TheVariants.{Refused, Replied, Deposited, Withdrawn, Packet}
@@ -18,9 +18,9 @@ line_text b = encoded b ++ 10 ∷ []
 abbrev pub reply_bytes : Reply → List ℕ
 reply_bytes r = 2 ∷ outcome_number r.outcome ∷ r.process ∷ r.version.0 ∷ cond r.given_up 1 0 ∷ []
 
--- a slot, without the zeros beyond the packet
+-- a slot up to the end of its packet
 abbrev pub slot_text : Sending → List ℕ
-slot_text x = line_text (up_to_packet x)
+slot_text x = encoded (heading x) ++ line_text x.packet
 
 abbrev pub sending_text : Option Sending → List ℕ
 sending_text None = []

@@ -1,6 +1,7 @@
 // The text of an answer.
 ghost use Rattle.std.specs.Prelude.{◌≡◌, ◌<◌, ◌≤◌, ◌++◌, length, OnOk};
 ghost use Rattle.terms.specs.Sendings.{sending_of, told_of};
+ghost use Rattle.slot.specs.Slots.{up_to_packet};
 ghost use Rattle.trace.specs.Texts.{reply_bytes, line_text, slot_text, reply_text, refusal_text, setup_text, answer_text};
 
 use crate::session::Answer;
@@ -33,7 +34,8 @@ fn bytes_of_reply(reply: Reply) -> [u8; 5]
 
 // Appends the slot of an instruction, without the zeros beyond the packet.
 fn slot_onto(out: &mut Vec<u8>, instruction: Instruction<'_>) -> Result<(), AllocError>
-    ensures { OnOk result (out.new.items ≡ out.old.items ++ slot_text (sending_of instruction.entry)) }
+    ensures text { OnOk result (out.new.items ≡ out.old.items ++ slot_text (sending_of instruction.entry)) }
+    ensures slot { OnOk result (out.new.items ≡ out.old.items ++ line_text (up_to_packet (sending_of instruction.entry))) }
 {
     encode_onto(out, &heading_of(instruction))?;
     line_onto(out, instruction.packet)?;

@@ -24,8 +24,7 @@ use terms::answer::{Outcome, Refusal, Reply};
 use terms::grant::{Grant, GrantInForce};
 use terms::process::Feedback;
 use terms::setup::{CellKind, Setup};
-use terms::state::State;
-use terms::tally::Tally;
+use terms::state::{State, Tally};
 use terms::version::RedundancyVersion;
 
 // The reply of a subframe that has no process.
@@ -97,7 +96,6 @@ impl Cell {
             tally: Tally {
                 packets: 0,
                 sendings: 0,
-                figure: 0,
             },
             clock: start,
         };

@@ -2,7 +2,7 @@
 ghost use Rattle.std.specs.Prelude.{◌≡◌};
 
 use crate::cell::Cell;
-use terms::tally::Tally;
+use terms::state::Tally;
 
 impl Cell {
     // Packets begun and sendings made since set-up.
