@@ -54,7 +54,7 @@ def respelled(name):
         return name.replace("-", "_")
     if name[0].isupper():
         return camel(name)
-    return name.replace("-", "_").replace("getD", "get_or").lower() if any(w != w.lower() and w != "getD" for w in words) else name.replace("-", "_").replace("getD", "get_or")
+    return name.replace("getD", "get_or").replace("-", "_").lower()
 
 
 def turned(text, table, comment):
