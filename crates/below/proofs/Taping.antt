@@ -1,17 +1,25 @@
 -- Slots in the bytes of a tape: what a write to one leaves.
-use Rattle.std.proofs.Common.{◌≡◌, ℕ, ◌+◌, ◌-◌, ◌*◌, ◌/◌, ◌<◌, ◌≤◌, Bool, true, false, cond, ltb, leb, List, ◌++◌, length, take, drop, None, refl, ap, ◌∙◌, arith, length-append, length-drop, take-append-drop, length-take, rules}
+use Rattle.std.proofs.Common.{◌≡◌, ℕ, ◌+◌, ◌-◌, ◌*◌, ◌/◌, ◌<◌, ◌≤◌, zero, suc, Bool, true, false, cond, ltb, List, ◌++◌, length, get_or, take, drop, refl, ap, ◌∙◌, arith, length-append, length-drop, take-append-drop, length-take, rules}
 use borrow.Rule.Slice.PartMut.{put_mid}
+use Rattle.std.specs.Simd.{first_chunks}
 use Rattle.std.proofs.lemmas.List.{take_at, drop_at, drop-drop, drop-append-le, take-append-le, drop-take, take-take}
 use Rattle.terms.specs.Sendings.{Sending, is_packet}
 use Rattle.slot.specs.Slots.{slot_of, decoded, takes_slot, after_encoding}
 use Rattle.slot.proofs.Coding.{length_slot, decoded_slot}
 use Rattle.below.specs.Tape.{slot_at, with_slot, written_at, TapeKeeps}
 
--- the part of slot k is the slot, and a write to it replaces the slot
-pub part_slot : (b : List ℕ) (k n : ℕ) → n ≡ 661 → take n (drop (661 * k) b) ≡ slot_at b k
-unfolding slot_at
-part_slot b k n e = ap (λ m. take m (drop (661 * k) b)) e
+-- chunk k of some bytes
+chunk_at : (n m k : ℕ) (b d : List ℕ) → k < m → get_or (first_chunks n m b) k d ≡ take n (drop (n * k) b)
+chunk_at n zero k b d h = absurd (omega arith)
+chunk_at n (suc m) zero b d h = let e : 0 ≡ n * 0 = omega arith in ap (λ i. take n (drop i b)) e
+chunk_at n (suc m) (suc k) b d h = chunk_at n m k (drop n b) d (omega arith) ∙ ap (take n) (drop-drop (n * k) n b ∙ ap (λ i. drop i b) (omega arith))
 
+-- the whole chunk k is slot k
+pub chunk_slot : (b : List ℕ) (k : ℕ) (s d : List ℕ) → k < length b / 661 → s ≡ get_or (first_chunks 661 (length b / 661) b) k d → s ≡ slot_at b k
+unfolding slot_at
+chunk_slot b k s d h e = e ∙ chunk_at 661 (length b / 661) k b d h
+
+-- a write to the part of slot k replaces the slot
 pub put_slot : (b s : List ℕ) (k n : ℕ) → n ≡ 661 → put_mid (661 * k) n b s ≡ with_slot b k s
 unfolding with_slot
 put_slot b s k n e = ap (λ t. take (661 * k) b ++ (s ++ t)) (drop-drop n (661 * k) b ∙ ap (λ m. drop (661 * k + m) b) e)
@@ -27,14 +35,6 @@ slot_with b s k h l =
     let n : length (take (661 * k) b) ≡ 661 * k = rw length-take (omega arith) in
     let d : drop (661 * k) (take (661 * k) b ++ (s ++ drop (661 * k + 661) b)) ≡ s ++ drop (661 * k + 661) b = drop_at (take (661 * k) b) (s ++ drop (661 * k + 661) b) (661 * k) n in
     rw d (take_at s (drop (661 * k + 661) b) 661 l)
-
--- a slot past the last whole one says nothing
-pub past_slots : (b : List ℕ) (k : ℕ) → length b / 661 ≤ k → decoded (slot_at b k) ≡ None
-unfolding decoded slot_at
-past_slots b k h =
-    let n : length (take 661 (drop (661 * k) b)) < 661 = simp (length-take, length-drop) (omega arith) in
-    let f : leb 661 (length (take 661 (drop (661 * k) b))) ≡ false = search rules in
-    rw f
 
 -- a sending that was to be written to the part of slot k
 pub put_encoded : (b s : List ℕ) (k n : ℕ) (x : Sending) → n ≡ 661 → k < length b / 661 → s ≡ after_encoding (take n (drop (661 * k) b)) x → put_mid (661 * k) n b s ≡ written_at b k x

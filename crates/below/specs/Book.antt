@@ -21,6 +21,11 @@ abbrev pub packet_offers : Option (List ℕ) → ℕ → Option (List ℕ)
 packet_offers None size = None
 packet_offers (Some p) size = cond (nat_le (length p) size && nat_le size 645) (Some (padded p size)) None
 
+-- the bytes of a record, if they wait for a size
+abbrev pub waiting_for : Option (List ℕ) → ℕ → Option (List ℕ)
+waiting_for None size = None
+waiting_for (Some p) size = cond (nat_le (length p) size && nat_le size 645) (Some p) None
+
 -- what the bytes left offer for a size
 abbrev pub left_offers : List ℕ → ℕ → Option (List ℕ)
 left_offers l size = packet_offers (first_record l) size
@@ -39,18 +44,22 @@ abbrev pub left_after : List ℕ → Option ℕ → List ℕ
 left_after l None = l
 left_after l (Some n) = cond (is_some (left_offers l n)) (left_used l) l
 
--- the records from the place on
+-- the records that are left
 abbrev pub left : Book → List ℕ
-left b = drop b.at b.records.now
+left b = b.rest.now
 
 -- what a book offers for a size
 abbrev pub book_offers : Book → ℕ → Option (List ℕ)
 book_offers b = left_offers (left b)
 
+-- a slice past its first n bytes: where it points, and what stands there
+abbrev pub slice_past : Bor (List ℕ) → ℕ → Bor (List ℕ)
+slice_past s n = record { ref_ptr = (s.ref_ptr.0, s.ref_ptr.1 + n); now = drop n s.now }
+
 -- a book moved past a first record with these bytes
 abbrev pub moved : Book → Option (List ℕ) → Book
 moved b None = b
-moved b (Some p) = record { records = b.records; at = b.at + (2 + length p) }
+moved b (Some p) = record { rest = slice_past b.rest (2 + length p) }
 
 -- a book once its first record was used, for whatever size
 abbrev pub book_used : Book → ℕ → Book
@@ -61,7 +70,7 @@ abbrev pub slice_bytes : Option (Bor (List ℕ)) → Option (List ℕ)
 slice_bytes None = None
 slice_bytes (Some s) = Some s.now
 
--- a record with these bytes has 1 to 645 of them, and ends in the book
+-- a record with these bytes has 1 to 645 of them, and ends in what is left of the book
 abbrev pub LiesIn : Book → Option (List ℕ) → Type 0
 LiesIn b None = Unit {0}
-LiesIn b (Some p) = (1 ≤ length p) × (length p ≤ 645) × (b.at + (2 + length p) ≤ length b.records.now)
+LiesIn b (Some p) = (1 ≤ length p) × (length p ≤ 645) × (2 + length p ≤ length (left b))

@@ -7,6 +7,10 @@ use Rattle.below.specs.declared.heartbeat.Heartbeat.{Heartbeat}
 abbrev pub unit_bytes : ℕ → List ℕ
 unit_bytes u = (u / 16777216 % 256) ∷ (u / 65536 % 256) ∷ (u / 256 % 256) ∷ (u % 256) ∷ []
 
+-- the four bytes, if they wait for a size: from 4 bytes up to 645
+abbrev pub unit_waiting : ℕ → ℕ → Option (List ℕ)
+unit_waiting u size = cond (nat_le 4 size && nat_le size 645) (Some (unit_bytes u)) None
+
 -- what a unit offers for a size: its number and zeros, from 4 bytes up to 645
 abbrev pub unit_offers : ℕ → ℕ → Option (List ℕ)
 unit_offers u size = cond (nat_le 4 size && nat_le size 645) (Some (padded (unit_bytes u) size)) None

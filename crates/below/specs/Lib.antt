@@ -6,3 +6,4 @@ pub mod Heartbeat
 pub mod Piled
 pub mod Spans
 pub mod Tape
+pub mod Fits

@@ -1,10 +1,11 @@
 // A heartbeat: a source that never runs out.
-ghost use Rattle.std.specs.Prelude.{◌≡◌, ℕ};
-ghost use Rattle.ports.specs.Source.{FitsSize};
-ghost use Rattle.below.specs.Heartbeat.{heartbeat_offers, heartbeat_used};
+ghost use Rattle.std.specs.Prelude.{◌≡◌};
+ghost use Rattle.below.specs.Fits.{unit_fits};
+ghost use Rattle.below.specs.Heartbeat.{unit_waiting, heartbeat_offers, heartbeat_used};
 
-use crate::stretch::{LONGEST, lay};
+use crate::stretch::lay;
 use ports::source::Source;
+use terms::instruction::LONGEST_PACKET;
 
 // A source that offers its unit number, highest byte first, with zeros after it, for every size from 4 up to 645. Use leaves it as it is.
 #[derive(Clone, Copy)]
@@ -20,12 +21,12 @@ impl Heartbeat {
         Heartbeat { unit }
     }
 
-    // How long the shortest heartbeat is. What is offered for a size has that size.
-    fn shortest(&self) -> usize
-        ensures bytes { result ≡ 4 }
-        ensures sizes { (n : ℕ) → FitsSize n (heartbeat_offers self.now n) }
+    // The unit's number, highest byte first, if it waits for a size.
+    fn waiting_for(&self, size: usize) -> Option<[u8; 4]>
+        ensures { result ≡ unit_waiting self.now.unit size }
     {
-        self.unit.to_be_bytes().len()
+        let number = self.unit.to_be_bytes();
+        (number.len() <= size && size <= LONGEST_PACKET).then_some(number)
     }
 }
 
@@ -34,15 +35,17 @@ impl Source for Heartbeat {
 
     ghost used = { heartbeat_used };
 
+    ghost fits = { λ h n. unit_fits h.unit n };
+
     fn waits(&self, size: usize) -> bool {
-        self.shortest() <= size && size <= LONGEST
+        self.waiting_for(size).is_some()
     }
 
     fn fill(&mut self, stretch: &mut [u8]) -> bool {
-        if !self.waits(stretch.len()) {
+        let Some(number) = self.waiting_for(stretch.len()) else {
             return false;
-        }
-        lay(stretch, &self.unit.to_be_bytes());
+        };
+        lay(stretch, &number);
         true
     }
 }

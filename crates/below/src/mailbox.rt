@@ -6,12 +6,11 @@ ghost use Rattle.below.specs.Mailbox.{mailbox_radioed};
 mod kept;
 
 use crate::mailbox::kept::Kept;
-use crate::stretch::{LONGEST, lay};
 use ports::radio::Radio;
 use terms::instruction::Instruction;
 
 // How many instructions a mailbox takes in all.
-const CAPACITY: u64 = 0x1_0000_0000_0000;
+const CAPACITY: u64 = 1 << 48;
 
 #[derive(Drop)]
 pub struct Mailbox {
@@ -36,17 +35,7 @@ impl Mailbox {
     pub fn latest(&self) -> Option<Instruction<'_>>
         ensures { told_of result ≡ (mailbox_radioed self.now).latest }
     {
-        match &self.latest {
-            Some(kept) => Some(Instruction {
-                subframe: kept.subframe,
-                process: kept.process,
-                version: kept.version,
-                mcs: kept.mcs,
-                resource: kept.resource,
-                packet: &kept.packet[..kept.size],
-            }),
-            None => None,
-        }
+        self.latest.as_ref().map(Kept::instruction)
     }
 }
 
@@ -60,22 +49,14 @@ impl Radio for Mailbox {
     }
 
     fn take(&mut self, instruction: Instruction<'_>) -> bool {
-        let size = instruction.packet.len();
-        if self.count >= CAPACITY || size == 0 || size > LONGEST {
+        if !self.ready() {
             return false;
         }
-        let mut packet = [0; LONGEST];
-        lay(&mut packet, instruction.packet);
+        let Some(kept) = Kept::of(instruction) else {
+            return false;
+        };
         self.count += 1;
-        self.latest = Some(Kept {
-            subframe: instruction.subframe,
-            process: instruction.process,
-            version: instruction.version,
-            mcs: instruction.mcs,
-            resource: instruction.resource,
-            size,
-            packet,
-        });
+        self.latest = Some(kept);
         true
     }
 }

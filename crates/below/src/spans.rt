@@ -26,19 +26,6 @@ pub struct Spans<'a> {
     spans: &'a [Span],
 }
 
-// Whether a subframe lies in one of the spans.
-fn some_covers(spans: &[Span], subframe: u64) -> bool
-    ensures some { result ≡ true → CoveredBySome spans.now subframe }
-    ensures none { result ≡ false → CoveredByNone spans.now subframe }
-{
-    for span in spans {
-        if span.covers(subframe) {
-            return true;
-        }
-    }
-    false
-}
-
 impl<'a> Spans<'a> {
     // The gaps of these spans.
     pub fn new(spans: &'a [Span]) -> Spans<'a>
@@ -54,8 +41,9 @@ impl GapPlan for Spans<'_> {
     fn covers(&self, subframe: u64) -> bool
         ensures computed { result ≡ spans_cover self.now.spans.now subframe }
         ensures some { result ≡ true → CoveredBySome self.now.spans.now subframe }
+        ensures none { result ≡ false → CoveredByNone self.now.spans.now subframe }
         ensures every { CoveredBySome self.now.spans.now subframe → result ≡ true }
     {
-        some_covers(self.spans, subframe)
+        self.spans.iter().any(|span| span.covers(subframe))
     }
 }

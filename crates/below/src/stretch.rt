@@ -2,9 +2,6 @@
 ghost use Rattle.std.specs.Prelude.{◌≡◌, ◌≤◌, length, take};
 ghost use Rattle.below.specs.Stretch.{padded};
 
-// The bytes of the longest packet.
-pub(crate) const LONGEST: usize = 645;
-
 // Lays a packet at the front of a stretch, with zeros after it.
 pub(crate) fn lay(stretch: &mut [u8], packet: &[u8])
     requires { length packet.now ≤ length stretch.old }

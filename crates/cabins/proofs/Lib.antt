@@ -1,4 +1,3 @@
-mod Cutting
+mod Decimals
 mod Walking
-mod Telling
 mod Reading

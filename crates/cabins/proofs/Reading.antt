@@ -1,12 +1,15 @@
 -- What is written of a cabin is read again.
 use Rattle.std.proofs.Common.{◌≡◌, ℕ, suc, ◌+◌, ◌-◌, ◌*◌, ◌/◌, ◌%◌, ◌^◌, ◌<◌, ◌≤◌, min, Bool, true, false, cond, not, ◌&&◌, eqb, List, [], ◌∷◌, ◌++◌, length, take, drop, Some, None, decimal, refl, ap, ◌∙◌, div-add-mod', arith, rules}
 use Rattle.std.proofs.lemmas.Bool.{false≢true}
+use Rattle.std.proofs.lemmas.List.Recursion.{and_push}
+use Rattle.std.proofs.Math.Seq.{take-append_seam, drop-append-add}
 use Rattle.std.proofs.lemmas.Fmt.{decimal_by_steps, decimal_nonempty}
+use Rattle.frames.specs.Lines.{length_to}
 use Rattle.cabins.specs.Entries.{word_length, word_of, after_word, is_digit, next_value, number_on, number_of, tally_with, free_of_spaces, entry, EntriesReadBack}
 
 -- the word before a space, and what stands after it
 length_before : (a b : List ℕ) → free_of_spaces a ≡ true → word_length (a ++ 32 ∷ b) ≡ length a
-unfolding word_length free_of_spaces
+unfolding length_to free_of_spaces
 length_before [] b f = refl
 length_before (x ∷ xs) b f = go (length_before xs b) (eqb x 32) f
   where
@@ -14,19 +17,11 @@ length_before (x ∷ xs) b f = go (length_before xs b) (eqb x 32) f
     go again true g = absurd (false≢true g)
     go again false g = ap suc (again g)
 
-take_before : (a b : List ℕ) → take (length a) (a ++ 32 ∷ b) ≡ a
-take_before [] b = refl
-take_before (x ∷ xs) b = ap (λ t. x ∷ t) (take_before xs b)
-
-drop_before : (a b : List ℕ) → drop (suc (length a)) (a ++ 32 ∷ b) ≡ b
-drop_before [] b = refl
-drop_before (x ∷ xs) b = drop_before xs b
-
 word_before : (a b : List ℕ) → free_of_spaces a ≡ true → word_of (a ++ 32 ∷ b) ≡ a
-word_before a b f = ap (λ n. take n (a ++ 32 ∷ b)) (length_before a b f) ∙ take_before a b
+word_before a b f = ap (λ n. take n (a ++ 32 ∷ b)) (length_before a b f) ∙ take-append_seam a (32 ∷ b)
 
 after_before : (a b : List ℕ) → free_of_spaces a ≡ true → after_word (a ++ 32 ∷ b) ≡ b
-after_before a b f = ap (λ n. drop (suc n) (a ++ 32 ∷ b)) (length_before a b f) ∙ drop_before a b
+after_before a b f = ap (λ n. drop n (a ++ 32 ∷ b)) (let s : suc (word_length (a ++ 32 ∷ b)) ≡ length a + 1 = omega (arith, length_before a b f) in s) ∙ drop-append-add a (32 ∷ b) 1
 
 -- one digit more at the end
 number_push : (m : ℕ) (ds : List ℕ) (c k : ℕ) → number_on m ds ≡ Some k → is_digit c ≡ true → number_on m (ds ++ c ∷ []) ≡ Some (next_value k c)
@@ -40,12 +35,7 @@ number_push m (x ∷ xs) c k e d = go (λ g. number_push (next_value m x) xs c k
 
 free_push : (ds : List ℕ) (c : ℕ) → free_of_spaces ds ≡ true → is_digit c ≡ true → free_of_spaces (ds ++ c ∷ []) ≡ true
 unfolding free_of_spaces
-free_push [] c f d = search rules
-free_push (x ∷ xs) c f d = go (λ g. free_push xs c g d) (not (eqb x 32)) f
-  where
-    go : (free_of_spaces xs ≡ true → free_of_spaces (xs ++ c ∷ []) ≡ true) → (t : Bool) → t && free_of_spaces xs ≡ true → t && free_of_spaces (xs ++ c ∷ []) ≡ true
-    go again true g = again g
-    go again false g = g
+free_push ds c f d = let e = and_push free_of_spaces (λ x. not (eqb x 32)) refl (λ _ _. refl) ds c in search rules
 
 -- the digits of a number have no space, and are read as the number
 abbrev Reads : ℕ → List ℕ → Type 0

@@ -1,18 +1,18 @@
 -- A line of a site's list: a cabin's name, its packets and its sendings, with a space between.
-use Rattle.std.specs.Prelude.{◌≡◌, ℕ, suc, ◌+◌, ◌-◌, ◌*◌, ◌^◌, ◌<◌, min, Bool, true, cond, not, ◌&&◌, List, [], ◌∷◌, ◌++◌, length, take, drop, Some, None, decimal, Option, ◌==◌, nat_le}
+use Rattle.std.specs.Prelude.{◌≡◌, ℕ, ◌+◌, ◌-◌, ◌*◌, ◌^◌, ◌<◌, min, Bool, true, cond, not, ◌&&◌, List, [], ◌∷◌, ◌++◌, length, Some, None, decimal, Option, ◌==◌, nat_le}
+use Rattle.frames.specs.Lines.{length_to, part_before, part_after}
 use Rattle.terms.specs.declared.tally.Tally.{Tally}
 
 -- how many characters stand before the first space
-unfoldable pub word_length : List ℕ → ℕ
-word_length [] = 0
-word_length (x ∷ xs) = cond (x == 32) 0 (suc (word_length xs))
+abbrev pub word_length : List ℕ → ℕ
+word_length = length_to 32
 
 -- what stands before the first space, and after it
 abbrev pub word_of : List ℕ → List ℕ
-word_of t = take (word_length t) t
+word_of = part_before 32
 
 abbrev pub after_word : List ℕ → List ℕ
-after_word t = drop (suc (word_length t)) t
+after_word = part_after 32
 
 abbrev pub is_digit : ℕ → Bool
 is_digit c = nat_le 48 c && nat_le c 57

@@ -2,4 +2,4 @@ pub mod Writing
 pub mod Turning
 pub mod Calling
 pub mod Promising
-pub mod Following
+pub mod Answering

@@ -1,58 +1,68 @@
 -- A packet written to the front of a stretch of packet memory.
-use Rattle.std.proofs.Common.{◌≡◌, ℕ, ◌+◌, ◌-◌, ◌*◌, ◌≤◌, true, List, length, take, drop, Some, None, Option, unwrap_or, sym, ap, ◌∙◌, subst, arith, length-drop, take-append-drop, length-take, drop-drop}
-use borrow.Rule.Slice.PartMut.{put_mid}
+use Rattle.std.proofs.Common.{◌≡◌, ℕ, ◌+◌, ◌-◌, ◌*◌, ◌≤◌, true, List, length, Some, None, Option, unwrap_or, sym, ap, ◌∙◌, subst, arith, length-drop, length-take, append_assoc}
+use Rattle.std.specs.List.{copy_within}
 use Rattle.terms.specs.declared.grant.GrantInForce.{GrantInForce}
 use Rattle.terms.specs.declared.grant.Reception.{Reception}
 use Rattle.terms.specs.declared.grant.Reception.TheVariants.{CRnti, TemporaryCRnti, SpsRetransmission, Configured, RandomAccessResponse}
+use Rattle.terms.specs.declared.decision.Decision.{Decision}
+use Rattle.terms.specs.declared.decision.Decision.TheVariants as decision
+use Rattle.ports.specs.Source.{FitsSize}
 use Rattle.rules.specs.Memory.{part, written}
 use Rattle.terms.specs.declared.decision.NewPacket.{NewPacket}
-use Rattle.ports.specs.Source.{FitsAsked, source_after}
-use Rattle.rules.specs.Entity.{Fresh, obtained, obtained_by, msg3_taken, asked_by}
-use Rattle.rules.specs.Invariant.{FreshSized}
-use Rattle.cell.specs.Effects.{new_packet, with_packet, with_fresh}
+use Rattle.rules.specs.Entity.{Fresh, obtained, obtained_by, offered, msg3_taken}
+use Rattle.rules.specs.Invariant.{FreshSized, Obtains}
+use Rattle.cell.specs.Effects.{new_packet}
 
--- a part lent and written is a packet written, or nothing
-pub writing : (m ys : List ℕ) (j k : ℕ) (o : Option (List ℕ)) → length ys ≡ k → ys ≡ unwrap_or o (take k (drop (645 * j) m)) → put_mid (645 * j) k m ys ≡ with_packet m j o
-writing m ys j k None l e = rw (e, take-append-drop k (drop (645 * j) m), take-append-drop (645 * j) m)
-writing m ys j k (Some p) l e =
-    let n : length p ≡ k = ap length (sym e) ∙ l in
-    rw (n, e, drop-drop)
-
-pub lent_length : (m : List ℕ) (a n : ℕ) → a + n ≤ length m → length (take (a + n - a) (drop a m)) ≡ n
-lent_length m a n h = simp (length-take, length-drop) (omega arith)
-
-pub part_length : (m : List ℕ) (k n : ℕ) → 645 * k + n ≤ length m → length (part m k n) ≡ n
+part_length : (m : List ℕ) (k n : ℕ) → 645 * k + n ≤ length m → length (part m k n) ≡ n
 part_length m k n h = simp (length-take, length-drop) (omega arith)
+
+-- the packet of the Msg3 buffer, copied to another stretch
+pub copied : (m ys : List ℕ) (a b r k n : ℕ) → a ≡ 5160 → b ≡ 645 * k → r ≡ n → 5160 + n ≤ length m → ys ≡ copy_within m a (a + r) b → ys ≡ written m k (part m 8 n)
+copied m ys a b r k n ea eb er h e =
+    let l : length (part m 8 n) ≡ n = part_length m 8 n (omega arith) in
+    let d : a + r - a ≡ n = omega arith in
+    e ∙ rw (d, ea, eb, append_assoc, l)
 
 abbrev marked : ℕ → Option NewPacket
 marked n = Some (record { length = n; from_msg3 = true })
 
--- a packet that is taken from the Msg3 buffer
 -- the length of a Msg3 packet that is taken is that of the one that is held
-pub msg3_lengths : (r : Reception) (o : Option ℕ) (n : ℕ) → Some n ≡ msg3_taken r o → (1 ≤ unwrap_or o 1) × (unwrap_or o 1 ≤ 645) → (1 ≤ n) × (n ≤ 645)
+msg3_lengths : (r : Reception) (o : Option ℕ) (n : ℕ) → Some n ≡ msg3_taken r o → (1 ≤ unwrap_or o 1) × (unwrap_or o 1 ≤ 645) → (1 ≤ n) × (n ≤ 645)
 msg3_lengths (CRnti x) o n e h = cc
 msg3_lengths TemporaryCRnti o n e h = cc
 msg3_lengths SpsRetransmission o n e h = cc
 msg3_lengths Configured o n e h = cc
 msg3_lengths RandomAccessResponse o n e h = subst (λ q. (1 ≤ unwrap_or q 1) × (unwrap_or q 1 ≤ 645)) (sym e) h
 
-module _ (g : GrantInForce) (msg3 : Option ℕ) (m : List ℕ) (offers : ℕ → Option (List ℕ)) (k n : ℕ) (taken : Some n ≡ msg3_taken g.reception msg3) where
+module _ (g : GrantInForce) (msg3 : Option ℕ) (m : List ℕ) (offers : ℕ → Option (List ℕ)) (n : ℕ) (taken : Some n ≡ msg3_taken g.reception msg3) (held : (1 ≤ unwrap_or msg3 1) × (unwrap_or msg3 1 ≤ 645)) (l : 5805 ≤ length m) where
   from_msg3 : Some (record { from_msg3 = true; packet = part m 8 n }) ≡ obtained g msg3 m offers
   from_msg3 = ap (λ o. obtained_by o g.size m offers) taken
 
-  pub msg3_packet : length (part m 8 n) ≡ n → marked n ≡ new_packet (obtained g msg3 m offers)
-  msg3_packet z = ap marked (sym z) ∙ ap new_packet from_msg3
+  whole : length (part m 8 n) ≡ n
+  whole = let z = msg3_lengths g.reception msg3 n taken held in part_length m 8 n (omega (arith, z.1))
 
-  pub msg3_sized : length (part m 8 n) ≡ n → 1 ≤ n → n ≤ 645 → FreshSized (obtained g msg3 m offers)
-  msg3_sized z l u =
-      let P : Option Fresh → Type 0 = λ f. FreshSized f in
-      subst P from_msg3 (omega arith, omega arith)
+  pub msg3_packet : marked n ≡ new_packet (obtained g msg3 m offers)
+  msg3_packet = ap marked (sym whole) ∙ ap new_packet from_msg3
 
-  pub msg3_memory : written m k (part m 8 n) ≡ with_fresh m k (obtained g msg3 m offers)
-  msg3_memory = ap (with_fresh m k) from_msg3
+-- a packet that a source offers, and one that is taken from Msg3, has 1 to 645 bytes
+offered_sized : (n : ℕ) (o : Option (List ℕ)) → FitsSize n o → FreshSized (offered o)
+offered_sized n None h = tt
+offered_sized n (Some b) h = (omega arith, omega arith)
 
-pub msg3_source : {S : Type 0} (offers : S → ℕ → Option (List ℕ)) (used : S → ℕ → S) (s : S) (o : Option ℕ) (n size : ℕ) → Some n ≡ o → s ≡ source_after offers used s (asked_by o size)
-msg3_source offers used s o n size e = ap (λ o. source_after offers used s (asked_by o size)) e
+obtained_sized : (o : Option ℕ) (size : ℕ) (m : List ℕ) (offers : ℕ → Option (List ℕ)) → (1 ≤ unwrap_or o 1) × (unwrap_or o 1 ≤ 645) → FitsSize size (offers size) → 5805 ≤ length m → FreshSized (obtained_by o size m offers)
+obtained_sized (Some n) size m offers h f l = let e = part_length m 8 n (omega arith) in (omega arith, omega arith)
+obtained_sized None size m offers h f l = offered_sized size (offers size) f
 
-pub msg3_fits : (offers : ℕ → Option (List ℕ)) (o : Option ℕ) (n size : ℕ) → Some n ≡ o → FitsAsked offers (asked_by o size)
-msg3_fits offers o n size e = let P : Option ℕ → Type 0 = λ o. FitsAsked offers (asked_by o size) in subst P e tt
+taken_sized : (r : Reception) (o : Option ℕ) → (1 ≤ unwrap_or o 1) × (unwrap_or o 1 ≤ 645) → (1 ≤ unwrap_or (msg3_taken r o) 1) × (unwrap_or (msg3_taken r o) 1 ≤ 645)
+taken_sized (CRnti x) o h = (omega arith, omega arith)
+taken_sized TemporaryCRnti o h = (omega arith, omega arith)
+taken_sized SpsRetransmission o h = (omega arith, omega arith)
+taken_sized Configured o h = (omega arith, omega arith)
+taken_sized RandomAccessResponse o h = h
+
+-- what a decision obtains has 1 to 645 bytes
+pub obtains : (d : Decision) (o : Option ℕ) (m : List ℕ) (offers : ℕ → Option (List ℕ)) → ((n : ℕ) → FitsSize n (offers n)) → (1 ≤ unwrap_or o 1) × (unwrap_or o 1 ≤ 645) → 5805 ≤ length m → Obtains d o m offers
+obtains (decision.Rest c) o m offers f h l = tt
+obtains (decision.New g) o m offers f h l = obtained_sized (msg3_taken g.reception o) g.size m offers (taken_sized g.reception o h) (f g.size) l
+obtains (decision.Adaptive g) o m offers f h l = tt
+obtains decision.NonAdaptive o m offers f h l = tt

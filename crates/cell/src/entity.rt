@@ -2,33 +2,27 @@
 ghost use Rattle.std.specs.Prelude.{◌≡◌};
 ghost use Rattle.rules.specs.Entity.{process_at, repeating, process_of, answering, wants_new, spares, decided};
 
-use crate::process::{IDLE, is_ack};
+use crate::harq_process::HarqProcess;
+use crate::process::IDLE;
 use terms::answer::Outcome;
 use terms::decision::Decision;
 use terms::grant::{GrantInForce, Reception};
-use terms::process::Process;
-use terms::setup::{CellKind, Setup};
+use terms::process::{Feedback, Process};
+use terms::setup::CellKind;
 use terms::state::Repetition;
 
-// The process of a number; past the last, one that is as at set-up.
+// The process of a number; past the last, one that is as at set-up: so the function is total, and no rule has to show that its number is below 8.
 pub(crate) fn fetch(processes: &[Process; 8], k: u8) -> Process
     ensures { result ≡ process_at processes.now k }
 {
-    if k < 8 { processes[k as usize] } else { IDLE }
+    processes.get(usize::from(k)).copied().unwrap_or(IDLE)
 }
 
 // The process whose repetitions run.
 pub(crate) fn running(clock: u64, repetition: Option<Repetition>) -> Option<u8>
     ensures { result ≡ repeating clock repetition }
 {
-    match repetition {
-        Some(r) => if clock < r.until {
-            Some(r.process)
-        } else {
-            None
-        },
-        None => None,
-    }
+    repetition.filter(|r| clock < r.until).map(|r| r.process)
 }
 
 // The process of a subframe.
@@ -54,17 +48,11 @@ pub(crate) fn identify(
 pub(crate) fn identify_answered(kind: CellKind, clock: u64) -> Option<u8>
     ensures { result ≡ answering kind clock }
 {
-    if clock < 4 {
-        return None;
-    }
+    let sent = clock.checked_sub(4)?;
     match kind {
-        CellKind::Plain => Some(((clock - 4) % 8) as u8),
-        CellKind::Bundled => if clock % 4 == 3 {
-            Some(((clock - 4) % 16 / 4) as u8)
-        } else {
-            None
-        },
-        CellKind::Asynchronous => None,
+        CellKind::Plain => Some((sent % 8) as u8),
+        CellKind::Bundled if clock % 4 == 3 => Some((sent % 16 / 4) as u8),
+        CellKind::Bundled | CellKind::Asynchronous => None,
     }
 }
 
@@ -72,47 +60,40 @@ pub(crate) fn is_new(reception: Reception, p: Process) -> bool
     ensures { result ≡ wants_new reception p }
 {
     match reception {
-        Reception::CRnti(ndi) => match p.reference_ndi {
-            Some(reference) => p.buffer.is_none() || reference != ndi,
-            None => true,
-        },
+        Reception::CRnti(ndi) => p.buffer.is_none() || p.reference_ndi != Some(ndi),
         Reception::TemporaryCRnti | Reception::SpsRetransmission => false,
         Reception::Configured | Reception::RandomAccessResponse => true,
     }
 }
 
-// Whether a configured grant leaves a packet that is not acknowledged in its place.
-pub(crate) fn is_spared(setup: Setup, reception: Reception, p: Process) -> bool
-    ensures { result ≡ spares setup reception p }
-{
-    match reception {
-        Reception::Configured => setup.interval < 10
-            && p.buffer.is_some()
-            && !is_ack(p.harq_feedback),
-        _ => false,
+impl HarqProcess {
+    // Whether a configured grant leaves a packet that is not acknowledged in its place.
+    fn is_spared(self, reception: Reception) -> bool
+        ensures { result ≡ spares self.setup reception self.process }
+    {
+        matches!(reception, Reception::Configured)
+            && self.setup.interval < 10
+            && self.process.buffer.is_some()
+            && self.process.harq_feedback != Feedback::Ack
     }
-}
 
-// What the process of a subframe is instructed to do.
-pub(crate) fn decide(setup: Setup, g: Option<GrantInForce>, p: Process) -> Decision
-    ensures { result ≡ decided setup g p }
-{
-    let Some(g) = g else {
-        return if p.buffer.is_some() {
-            Decision::NonAdaptive
-        } else {
-            Decision::Rest(Outcome::Idle)
-        };
-    };
-    if is_new(g.reception, p) {
-        if is_spared(setup, g.reception, p) {
-            Decision::NonAdaptive
-        } else {
-            Decision::New(g)
+    // What the process of a subframe is instructed to do.
+    pub(crate) fn decide(self, g: Option<GrantInForce>) -> Decision
+        ensures { result ≡ decided self.setup g self.process }
+    {
+        let held = self.process.buffer.is_some();
+        match g {
+            None if held => Decision::NonAdaptive,
+            None => Decision::Rest(Outcome::Idle),
+            Some(g) if is_new(g.reception, self.process) => {
+                if self.is_spared(g.reception) {
+                    Decision::NonAdaptive
+                } else {
+                    Decision::New(g)
+                }
+            }
+            Some(g) if held => Decision::Adaptive(g),
+            Some(_) => Decision::Rest(Outcome::EmptyBuffer),
         }
-    } else if p.buffer.is_some() {
-        Decision::Adaptive(g)
-    } else {
-        Decision::Rest(Outcome::EmptyBuffer)
     }
 }

@@ -1,53 +1,42 @@
-// UL grant reception (TS 36.321, 5.4.1).
+// UL grant reception (TS 36.321, 5.4.1). Each rule takes the parts of a cell that it may depend on, and reads a kind from its number, since a grant that the questions let pass is one of numbers still.
 ghost use Rattle.std.specs.Prelude.{◌≡◌};
-ghost use Rattle.rules.specs.Reception.{activates, reception_of, over_the_air, recurring, recurs, stored_in_force, grant_in_force, stored_after, referred};
+ghost use Rattle.rules.specs.Reception.{reception_of, over_the_air, recurring, recurs, stored_in_force, grant_in_force, stored_after, referred};
 
-use terms::grant::{ConfiguredGrant, Grant, GrantInForce, Reception};
+use terms::grant::{ConfiguredGrant, Grant, GrantInForce, GrantKind, Reception};
 use terms::process::Process;
 use terms::setup::Setup;
 use terms::version::RedundancyVersion;
 
-pub(crate) fn is_activation(g: Grant) -> bool
-    ensures { result ≡ activates g }
-{
-    g.kind == 2 && g.ndi == 0
-}
-
-pub(crate) fn reception(g: Grant) -> Option<Reception>
+fn reception(g: Grant) -> Option<Reception>
     ensures { result ≡ reception_of g }
 {
-    match g.kind {
-        0 => Some(Reception::CRnti(g.ndi)),
-        1 => Some(Reception::TemporaryCRnti),
-        2 => Some(if g.ndi == 0 {
-            Reception::Configured
-        } else {
-            Reception::SpsRetransmission
-        }),
-        4 => Some(Reception::RandomAccessResponse),
-        _ => None,
+    match GrantKind::try_from(g.kind) {
+        Ok(GrantKind::CRnti) => Some(Reception::CRnti(g.ndi)),
+        Ok(GrantKind::TemporaryCRnti) => Some(Reception::TemporaryCRnti),
+        Ok(GrantKind::SpsCRnti) if g.ndi == 0 => Some(Reception::Configured),
+        Ok(GrantKind::SpsCRnti) => Some(Reception::SpsRetransmission),
+        Ok(GrantKind::RandomAccessResponse) => Some(Reception::RandomAccessResponse),
+        Ok(GrantKind::SpsRelease) | Err(_) => None,
     }
 }
 
+// A grant over the air, as it is in force; no TryFrom, since the rule has its place here and both types lie in the crate below.
 pub(crate) fn enforce(g: Grant) -> Option<GrantInForce>
     ensures { result ≡ over_the_air g }
 {
-    match reception(g) {
-        Some(reception) => Some(GrantInForce {
-            reception,
-            mcs: g.mcs,
-            version: RedundancyVersion(g.version),
-            process: g.process,
-            repetitions: g.repetitions,
-            resource: g.resource,
-            size: g.size,
-        }),
-        None => None,
-    }
+    Some(GrantInForce {
+        reception: reception(g)?,
+        mcs: g.mcs,
+        version: RedundancyVersion(g.version),
+        process: g.process,
+        repetitions: g.repetitions,
+        resource: g.resource,
+        size: g.size,
+    })
 }
 
-// The stored grant, as it is in force.
-pub(crate) fn recur(c: ConfiguredGrant) -> GrantInForce
+// The stored grant, as it is in force; no From, for the same reason.
+fn recur(c: ConfiguredGrant) -> GrantInForce
     ensures { result ≡ recurring c }
 {
     GrantInForce {
@@ -61,27 +50,16 @@ pub(crate) fn recur(c: ConfiguredGrant) -> GrantInForce
     }
 }
 
-pub(crate) fn is_due(setup: Setup, clock: u64, c: ConfiguredGrant) -> bool
+fn is_due(setup: Setup, clock: u64, c: ConfiguredGrant) -> bool
     ensures { result ≡ recurs setup clock c }
 {
     setup.interval > 0 && c.since < clock && (clock - c.since) % u64::from(setup.interval) == 0
 }
 
-pub(crate) fn recall(
-    setup: Setup,
-    clock: u64,
-    configured: Option<ConfiguredGrant>,
-) -> Option<GrantInForce>
+fn recall(setup: Setup, clock: u64, configured: Option<ConfiguredGrant>) -> Option<GrantInForce>
     ensures { result ≡ stored_in_force setup clock configured }
 {
-    match configured {
-        Some(c) => if is_due(setup, clock, c) {
-            Some(recur(c))
-        } else {
-            None
-        },
-        None => None,
-    }
+    configured.filter(|c| is_due(setup, clock, *c)).map(recur)
 }
 
 // The grant in force: one over the air takes the place of the stored one.
@@ -110,15 +88,16 @@ pub(crate) fn store(
     let Some(g) = grant else {
         return configured;
     };
-    if is_activation(g) {
-        return Some(ConfiguredGrant {
+    match GrantKind::try_from(g.kind) {
+        Ok(GrantKind::SpsCRnti) if g.ndi == 0 => Some(ConfiguredGrant {
             since: clock,
             mcs: g.mcs,
             resource: g.resource,
             size: g.size,
-        });
+        }),
+        Ok(GrantKind::SpsRelease) => None,
+        _ => configured,
     }
-    if g.kind == 3 { None } else { configured }
 }
 
 // What the grant in force makes of the reference NDI.

@@ -1,16 +1,20 @@
 // From a decision to the reply: the packet, the transmission, and what the cell keeps of them.
-ghost use Rattle.std.specs.Prelude.{◌≡◌, ◌^◌, ◌<◌, ◌≤◌, true, length};
+// The stages take the parts of the state that they need and no Cell: between them its parts need not fit together, which a Cell keeps.
+ghost use Rattle.std.specs.Prelude.{◌≡◌, ◌≤◌};
 ghost use Rattle.std.specs.Option.{unwrap_or};
-ghost use Rattle.ports.specs.Radio.{has_room, told};
-ghost use Rattle.ports.specs.Source.{FitsAsked, source_after};
+ghost use Rattle.ports.specs.Radio.{told};
+ghost use Rattle.ports.specs.Source.{source_after};
 ghost use Rattle.rules.specs.Entity.{course, asked, work_of, memory_after};
 ghost use Rattle.rules.specs.Subframe.{outcome_of, attempted, concluded, sending, sending_if, sending_by, repetition_by, repetition_after, finished, heard};
 ghost use Rattle.rules.specs.Process.{on_air};
-ghost use Rattle.rules.specs.Invariant.{Sane, Obtains, Loaded, LoadedWork};
+ghost use Rattle.rules.specs.Invariant.{Sane, Loaded, LoadedWork};
 
+use crate::PACKET_MEMORY;
 use crate::entity::{fetch, identify_answered};
-use crate::memory::{obtain, send_packet};
-use crate::process::{adapt, goes_on_air, hear, is_ack, is_last, renew, repeat, transmit};
+use crate::harq_process::HarqProcess;
+use crate::process::hear;
+use crate::roomy::Roomy;
+use crate::tti::Tti;
 use ports::radio::Radio;
 use ports::source::Source;
 use terms::answer::{Outcome, Reply};
@@ -26,167 +30,185 @@ pub(crate) fn take_answer(setup: Setup, state: &mut State, gap: bool, answer: Op
     ensures { state.new ≡ heard setup state.old gap answer }
 {
     if let Some(k) = identify_answered(setup.kind, state.clock) {
-        state.processes[k as usize] = hear(fetch(&state.processes, k), gap, answer);
+        state.processes[usize::from(k)] = hear(fetch(&state.processes, k), gap, answer);
     }
 }
 
-// Carries a decision out, up to the sending: a new transmission first obtains its packet.
-pub(crate) fn begin<S: Source>(
-    setup: Setup,
-    memory: &mut [u8],
-    source: &mut S,
-    k: u8,
-    msg3: Option<u16>,
-    p: Process,
-    decision: Decision,
-) -> Work
-    requires memory_len { (length memory.old ≡ 5805) × ((k < 9) × ((p.current_tx_nb < 255) × (Sane p decision))) }
-    requires bound { (1 ≤ unwrap_or msg3 1) × (unwrap_or msg3 1 ≤ 645) }
-    ensures obtains { Obtains decision msg3 memory.old (S.offers source.old) }
-    ensures fits { FitsAsked (S.offers source.old) (asked decision msg3) }
-    ensures work { result ≡ work_of (course setup decision msg3 memory.old (S.offers source.old) p) }
-    ensures memory { memory.new ≡ memory_after memory.old k (course setup decision msg3 memory.old (S.offers source.old) p) }
-    ensures source { source.new ≡ source_after S.offers S.used source.old (asked decision msg3) }
-{
-    match decision {
-        Decision::Rest(outcome) => Work::Rest(outcome, p),
-        Decision::New(g) => match obtain(memory, source, k, msg3, g) {
-            Some(packet) => Work::New(renew(setup, g, packet, p)),
-            None => Work::Rest(Outcome::NoPacket, p),
-        },
-        Decision::Adaptive(g) => Work::Again(adapt(setup, g, p), false),
-        Decision::NonAdaptive => Work::Again(repeat(setup, p), is_ack(p.harq_feedback)),
-    }
-}
-
-fn outcome(acked: bool, sent: bool) -> Outcome
-    ensures { result ≡ outcome_of acked sent }
-{
-    match (acked, sent) {
-        (true, _) => Outcome::Acknowledged,
-        (false, true) => Outcome::Sent,
-        (false, false) => Outcome::Gap,
-    }
-}
-
-// A transmission goes on the air, if nothing keeps it back, and counts against the maximum either way.
-fn attempt<R: Radio>(
-    setup: Setup,
-    clock: u64,
-    memory: &[u8],
-    radio: &mut R,
-    k: u8,
-    gap: bool,
+// A transmission that a process is about to make. Two marks and no enum of the three cases, since each rule asks for one of them.
+#[derive(Clone, Copy)]
+pub(crate) struct Transmission {
+    pub(crate) process: Process,
+    // the first of its packet
     new: bool,
-    acked: bool,
-    p: Process,
-) -> Conclusion
-    requires { (length memory.now ≡ 5805) × ((k < 9) × ((Loaded setup p) × (has_room (R.radioed radio.old) ≡ true))) }
-    ensures conclusion { result ≡ attempted setup k gap new acked p }
-    ensures radio { R.radioed radio.new ≡ told (R.radioed radio.old) (sending_if (on_air acked gap p) (sending_by clock k memory.now p)) }
-    ensures lender { R.lender radio.new ≡ R.lender radio.old }
-{
-    let sent = goes_on_air(p, acked, gap);
-    if sent {
-        send_packet(memory, radio, clock, k, p);
+    // an ACK keeps it off the air
+    pub(crate) acked: bool,
+}
+
+impl Transmission {
+    // A measurement gap keeps it off the air too, unless its packet is from Msg3.
+    pub(crate) fn goes_on_air(self, gap: bool) -> bool
+        ensures { result ≡ on_air self.acked gap self.process }
+    {
+        !self.acked && (!gap || self.process.from_msg3)
     }
-    Conclusion {
-        process: transmit(setup, sent, p),
-        reply: Reply {
-            outcome: outcome(acked, sent),
-            process: k,
-            version: if sent {
-                p.current_irv.version()
-            } else {
-                RedundancyVersion(0)
-            },
-            given_up: is_last(setup, p),
-        },
-        begun: new,
-        sent,
+
+    fn outcome(self, sent: bool) -> Outcome
+        ensures { result ≡ outcome_of self.acked sent }
+    {
+        match (self.acked, sent) {
+            (true, _) => Outcome::Acknowledged,
+            (false, true) => Outcome::Sent,
+            (false, false) => Outcome::Gap,
+        }
     }
 }
 
-// Does the work of a subframe.
-pub(crate) fn conclude<R: Radio>(
-    setup: Setup,
-    clock: u64,
-    memory: &[u8],
-    radio: &mut R,
-    k: u8,
-    gap: bool,
-    work: Work,
-) -> Conclusion
-    requires { (length memory.now ≡ 5805) × ((k < 9) × ((LoadedWork setup work) × (has_room (R.radioed radio.old) ≡ true))) }
-    ensures conclusion { result ≡ concluded setup k gap work }
-    ensures radio { R.radioed radio.new ≡ told (R.radioed radio.old) (sending clock k memory.now gap work) }
-    ensures lender { R.lender radio.new ≡ R.lender radio.old }
-{
-    match work {
-        Work::Rest(outcome, p) => Conclusion {
-            process: p,
+impl Tti {
+    // Carries a decision out, up to the sending: a new transmission first obtains its packet.
+    pub(crate) fn begin<S: Source>(
+        self,
+        memory: &mut [u8; PACKET_MEMORY],
+        source: &mut S,
+        msg3: Option<u16>,
+        p: HarqProcess,
+        decision: Decision,
+    ) -> Work
+        requires sane { Sane p.process decision }
+        requires bound { (1 ≤ unwrap_or msg3 1) × (unwrap_or msg3 1 ≤ 645) }
+        ensures work { result ≡ work_of (course p.setup decision msg3 memory.old (S.offers source.old) p.process) }
+        ensures memory { memory.new ≡ memory_after memory.old self.process (course p.setup decision msg3 memory.old (S.offers source.old) p.process) }
+        ensures source { source.new ≡ source_after S.offers S.used source.old (asked decision msg3) }
+    {
+        match decision {
+            Decision::Rest(outcome) => Work::Rest(outcome, p.process),
+            Decision::New(g) => match self.stretch().obtain(memory, source, msg3, g) {
+                Some(packet) => Work::New(p.renew(g, packet)),
+                None => Work::Rest(Outcome::NoPacket, p.process),
+            },
+            Decision::Adaptive(g) => Work::Again(p.adapt(g), false),
+            Decision::NonAdaptive => {
+                Work::Again(p.repeat(), p.process.harq_feedback == Feedback::Ack)
+            }
+        }
+    }
+
+    // A transmission goes on the air, if nothing keeps it back, and counts against the maximum either way.
+    fn attempt<R: Radio>(
+        self,
+        memory: &[u8; PACKET_MEMORY],
+        roomy: Roomy<'_, R>,
+        t: Transmission,
+    ) -> Conclusion
+        requires { Loaded self.setup t.process }
+        ensures conclusion { result ≡ attempted self.setup self.process self.gap t.new t.acked t.process }
+        ensures radio { R.radioed roomy.exit.0.now ≡ told (R.radioed roomy.entry.radio.now) (sending_if (on_air t.acked self.gap t.process) (sending_by self.clock self.process memory.now t.process)) }
+        ensures lender { R.lender roomy.exit.0.now ≡ R.lender roomy.entry.radio.now }
+    {
+        let p = HarqProcess {
+            setup: self.setup,
+            process: t.process,
+        };
+        let sent = self.send(memory, roomy, t);
+        Conclusion {
+            process: p.transmit(sent),
             reply: Reply {
-                outcome,
-                process: k,
-                version: RedundancyVersion(0),
-                given_up: false,
+                outcome: t.outcome(sent),
+                process: self.process,
+                version: if sent {
+                    RedundancyVersion::from(t.process.current_irv)
+                } else {
+                    RedundancyVersion(0)
+                },
+                given_up: p.is_last(),
             },
-            begun: false,
-            sent: false,
-        },
-        Work::New(p) => attempt(setup, clock, memory, radio, k, gap, true, false, p),
-        Work::Again(p, acked) => attempt(setup, clock, memory, radio, k, gap, false, acked, p),
+            begun: t.new,
+            sent,
+        }
     }
-}
 
-// A grant that an asynchronous process follows makes its repetitions run.
-fn start_repetition(
-    kind: CellKind,
-    clock: u64,
-    g: Option<GrantInForce>,
-    repetition: Option<Repetition>,
-) -> Option<Repetition>
-    requires { clock < 2 ^ 48 }
-    ensures { result ≡ repetition_by kind clock g repetition }
-{
-    match (kind, g) {
-        (CellKind::Asynchronous, Some(g)) => Some(Repetition {
-            process: g.process,
-            until: clock + u64::from(g.repetitions),
-        }),
-        _ => repetition,
+    // Does the work of a subframe.
+    pub(crate) fn conclude<R: Radio>(
+        self,
+        memory: &[u8; PACKET_MEMORY],
+        roomy: Roomy<'_, R>,
+        work: Work,
+    ) -> Conclusion
+        requires { LoadedWork self.setup work }
+        ensures conclusion { result ≡ concluded self.setup self.process self.gap work }
+        ensures radio { R.radioed roomy.exit.0.now ≡ told (R.radioed roomy.entry.radio.now) (sending self.clock self.process memory.now self.gap work) }
+        ensures lender { R.lender roomy.exit.0.now ≡ R.lender roomy.entry.radio.now }
+    {
+        let t = match work {
+            Work::Rest(outcome, process) => return Conclusion {
+                process,
+                reply: Reply {
+                    outcome,
+                    process: self.process,
+                    version: RedundancyVersion(0),
+                    given_up: false,
+                },
+                begun: false,
+                sent: false,
+            },
+            Work::New(process) => Transmission {
+                process,
+                new: true,
+                acked: false,
+            },
+            Work::Again(process, acked) => Transmission {
+                process,
+                new: false,
+                acked,
+            },
+        };
+        self.attempt(memory, roomy, t)
     }
-}
 
-pub(crate) fn rerun(
-    kind: CellKind,
-    clock: u64,
-    g: Option<GrantInForce>,
-    work: Work,
-    repetition: Option<Repetition>,
-) -> Option<Repetition>
-    requires { clock < 2 ^ 48 }
-    ensures { result ≡ repetition_after kind clock g work repetition }
-{
-    match work {
-        Work::Rest(_, _) => repetition,
-        Work::New(_) | Work::Again(_, _) => start_repetition(kind, clock, g, repetition),
+    // A grant that an asynchronous process follows makes its repetitions run.
+    fn start_repetition(
+        self,
+        g: Option<GrantInForce>,
+        repetition: Option<Repetition>,
+    ) -> Option<Repetition>
+        ensures { result ≡ repetition_by self.setup.kind self.clock g repetition }
+    {
+        match (self.setup.kind, g) {
+            (CellKind::Asynchronous, Some(g)) => Some(Repetition {
+                process: g.process,
+                until: self.clock + u64::from(g.repetitions),
+            }),
+            _ => repetition,
+        }
     }
-}
 
-// The end of a subframe.
-pub(crate) fn finish(
-    state: &mut State,
-    k: u8,
-    repetition: Option<Repetition>,
-    conclusion: Conclusion,
-)
-    requires { (k < 8) × ((state.old.clock < 2 ^ 48) × ((state.old.tally.packets ≤ state.old.clock) × (state.old.tally.sendings ≤ state.old.clock))) }
-    ensures { state.new ≡ finished state.old k repetition conclusion }
-{
-    state.processes[k as usize] = conclusion.process;
-    state.repetition = repetition;
-    state.tally.packets += u64::from(conclusion.begun);
-    state.tally.sendings += u64::from(conclusion.sent);
-    state.clock += 1;
+    pub(crate) fn rerun(
+        self,
+        g: Option<GrantInForce>,
+        work: Work,
+        repetition: Option<Repetition>,
+    ) -> Option<Repetition>
+        ensures { result ≡ repetition_after self.setup.kind self.clock g work repetition }
+    {
+        match work {
+            Work::Rest(_, _) => repetition,
+            Work::New(_) | Work::Again(_, _) => self.start_repetition(g, repetition),
+        }
+    }
+
+    // The end of a subframe.
+    pub(crate) fn finish(
+        self,
+        state: &mut State,
+        repetition: Option<Repetition>,
+        conclusion: Conclusion,
+    )
+        requires { (state.old.clock ≡ self.clock) × ((state.old.tally.packets ≤ self.clock) × (state.old.tally.sendings ≤ self.clock)) }
+        ensures { state.new ≡ finished state.old self.process repetition conclusion }
+    {
+        state.processes[usize::from(self.process)] = conclusion.process;
+        state.repetition = repetition;
+        state.tally.packets += u64::from(conclusion.begun);
+        state.tally.sendings += u64::from(conclusion.sent);
+        state.clock += 1;
+    }
 }

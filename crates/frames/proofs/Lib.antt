@@ -1,5 +1,5 @@
-pub mod Walking
 pub mod Cutting
 pub mod Joining
+pub mod Reading
 pub mod Spelling
 pub mod Rounds

@@ -87,7 +87,7 @@ bare_trip b n e = ap (λ x. x ∷ get_or b 1 0 ∷ []) (sym e) ∙ listed_is 2 0
 
 -- tests that led to an Ok
 no_ok : {X Y : Type 0} (e : Refusal) (p : X) → ◌≡◌ {A = Result X Refusal} (Err e) (Ok p) → Y
-no_ok e p h = absurd (let z : ◌≡◌ {A = ℕ} 0 1 = cc in omega arith)
+no_ok e p h = cc
 
 passed : {X : Type 0} (g : Bool) (x : Result X Refusal) (e : Refusal) (p : X) → cond g x (Err e) ≡ Ok p → (g ≡ true) × (x ≡ Ok p)
 passed true x e p h = (refl, h)

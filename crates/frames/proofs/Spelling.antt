@@ -8,11 +8,11 @@ use Rattle.frames.specs.Written.{spelled}
 
 no_length : (g : Bool) (n : ℕ) → None ≡ cond g (Some n) None → g ≡ false
 no_length false n h = refl
-no_length true n h = absurd (let z : ◌≡◌ {A = ℕ} 0 1 = cc in omega arith)
+no_length true n h = cc
 
 the_length : (g : Bool) (n e : ℕ) → Some e ≡ cond g (Some n) None → (g ≡ true) × (e ≡ n)
 the_length true n e h = (refl, cc)
-the_length false n e h = absurd (let z : ◌≡◌ {A = ℕ} 0 1 = cc in omega arith)
+the_length false n e h = cc
 
 -- a stretch too short for the digits alone
 pub no_room_for_digits : (o b d : List ℕ) → (length d ≤ length o → ⊥) → has_room o (spelled b d) ≡ false

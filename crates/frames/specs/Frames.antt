@@ -30,6 +30,10 @@ abbrev pub plainly : Result Frame Refusal → Result Plain Refusal
 plainly (Ok f) = Ok (plain f)
 plainly (Err e) = Err e
 
+-- bytes, where there are n of them
+abbrev pub exactly : ℕ → List ℕ → Result (List ℕ) Refusal
+exactly n b = cond (length b == n) (Ok b) (Err NotFrame)
+
 -- the number in two bytes, the highest first
 abbrev pub two_at : List ℕ → ℕ → ℕ
 two_at b k = slice_index b k * 256 + slice_index b (k + 1)
@@ -54,6 +58,10 @@ setup_of b = record { kind = slice_index b 1; max_harq_tx = slice_index b 2; max
 -- the fields of a subframe's grant, from the subframe's bytes
 abbrev pub grant_of : List ℕ → Grant
 grant_of b = record { kind = slice_index b 2; ndi = slice_index b 3; mcs = slice_index b 4; version = slice_index b 5; process = slice_index b 6; repetitions = slice_index b 7; resource = two_at b 8; size = two_at b 10 }
+
+-- those fields, where the subframe has 12 bytes
+abbrev pub grant_in : List ℕ → Result Grant Refusal
+grant_in b = cond (length b == 12) (Ok (grant_of b)) (Err NotFrame)
 
 -- the answer of an answer byte: 0 none, 1 ACK, 2 NACK, and no other
 abbrev pub answer_of : ℕ → Result (Option Feedback) Refusal

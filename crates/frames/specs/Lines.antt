@@ -1,5 +1,5 @@
 -- The lines of a text: each ends at a line feed, which is no part of it, and the last may end with the text.
-use Rattle.std.specs.Prelude.{◌≡◌, ℕ, suc, Bool, true, cond, not, ◌&&◌, List, [], ◌∷◌, ◌++◌, drop, ◌==◌}
+use Rattle.std.specs.Prelude.{◌≡◌, ℕ, suc, Bool, true, cond, not, ◌&&◌, List, [], ◌∷◌, ◌++◌, take, drop, ◌==◌}
 use Rattle.std.specs.List.{flat_map}
 
 -- one character more before the first line
@@ -12,14 +12,25 @@ unfoldable pub lines_of : List ℕ → List (List ℕ)
 lines_of [] = []
 lines_of (x ∷ xs) = cond (x == 10) ([] ∷ lines_of xs) (before x (lines_of xs))
 
+-- how many characters stand before the first separator
+unfoldable pub length_to : ℕ → List ℕ → ℕ
+length_to c [] = 0
+length_to c (x ∷ xs) = cond (x == c) 0 (suc (length_to c xs))
+
+-- what stands before the first separator, and after it
+abbrev pub part_before : ℕ → List ℕ → List ℕ
+part_before c t = take (length_to c t) t
+
+abbrev pub part_after : ℕ → List ℕ → List ℕ
+part_after c t = drop (suc (length_to c t)) t
+
 -- how many characters stand before the first line feed
-unfoldable pub first_length : List ℕ → ℕ
-first_length [] = 0
-first_length (x ∷ xs) = cond (x == 10) 0 (suc (first_length xs))
+abbrev pub first_length : List ℕ → ℕ
+first_length = length_to 10
 
 -- what stands after the first line feed
 abbrev pub after_first : List ℕ → List ℕ
-after_first t = drop (suc (first_length t)) t
+after_first = part_after 10
 
 -- a line with its line feed
 abbrev pub fed : List ℕ → List ℕ

@@ -10,11 +10,11 @@ use crate::read::read;
 use hexadecimal::{byte_len, decode_onto};
 use std::alloc::{AllocError, Global};
 
-// A number in two bytes, the highest first.
+// A number in two bytes, the highest first. Slots state a length by the same expression, which is too short to share.
 fn two_bytes(number: usize) -> [u8; 2]
     ensures { result ≡ two_bytes number }
 {
-    [(number / 256 % 256) as u8, (number % 256) as u8]
+    ((number % 0x1_0000) as u16).to_be_bytes()
 }
 
 // Appends the record of the packet of these digits.
@@ -40,8 +40,7 @@ pub fn book(heap: Global, input: &[u8]) -> Result<Vec<u8>, AllocError>
     ensures { IfOk result (λ v. v.items ≡ book_of input.now) }
 {
     let mut records = Vec::new(heap);
-    let mut lines = Lines::new(input);
-    while let Some(line) = lines.next() {
+    for line in Lines::new(input) {
         line_onto(&mut records, line)?;
     }
     Ok(records)

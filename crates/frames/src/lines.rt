@@ -1,37 +1,19 @@
 // The lines of a text. A line ends at a line feed, and at nothing else.
-ghost use Rattle.std.specs.Prelude.{◌≡◌, ◌<◌, ◌≤◌, [], ◌∷◌, length, IfSome, MatchOption, ◌==◌};
-ghost use Rattle.frames.specs.Lines.{lines_of, first_length, after_first, LinesMakeTheText};
+ghost use Rattle.std.specs.Prelude.{◌≡◌, ◌<◌, length};
+ghost use Rattle.std.specs.Iterator.{item_count};
+ghost use Rattle.frames.specs.Lines.{part_before, part_after, LinesMakeTheText};
+ghost use Rattle.frames.specs.Walks.{lines_left, GivesLine};
 
-// Whether a line ends at a character.
-fn ends_line(character: u8) -> bool
-    ensures { result ≡ (character == 10) }
+// What stands before the first separator of a text, and after it. A text without one stands before it as a whole.
+pub fn cut_at<'a>(text: &'a [u8], separator: u8) -> (&'a [u8], &'a [u8])
+    ensures before { result.0.now ≡ part_before separator text.now }
+    ensures after { result.1.now ≡ part_after separator text.now }
+    ensures shorter { 0 < length text.now → length result.1.now < length text.now }
 {
-    character == b'\n'
-}
-
-// How long the first line of a text is.
-fn line_len(text: &[u8]) -> usize
-    ensures value { result ≡ first_length text.now }
-    ensures bound { result ≤ length text.now }
-{
-    for (i, character) in text.iter().enumerate() {
-        if ends_line(*character) {
-            return i;
-        }
+    match text.iter().position(|c| *c == separator) {
+        Some(end) => (&text[..end], &text[end + 1..]),
+        None => (text, &[]),
     }
-    text.len()
-}
-
-// The first line of a text that is not empty, and what stands after its line feed.
-fn cut<'a>(text: &'a [u8]) -> (&'a [u8], &'a [u8])
-    requires { 0 < length text.now }
-    ensures line { lines_of text.now ≡ result.0.now ∷ lines_of result.1.now }
-    ensures after { result.1.now ≡ after_first text.now }
-    ensures falls { length result.1.now < length text.now }
-{
-    let end = line_len(text);
-    let next = if end < text.len() { end + 1 } else { end };
-    (&text[0..end], &text[next..])
 }
 
 // A walk over the lines of a text.
@@ -48,17 +30,21 @@ impl<'a> Lines<'a> {
     {
         Lines { rest: text }
     }
+}
+
+impl<'a> Iterator for Lines<'a> {
+    type Item = &'a [u8];
+
+    ghost next_gives = { GivesLine };
+
+    ghost remaining = { item_count lines_left };
 
     // The next line, if there is one.
-    pub fn next(&mut self) -> Option<&'a [u8]>
-        ensures line { MatchOption result (lines_of self.old.rest.now ≡ []) (λ x. lines_of self.old.rest.now ≡ x.now ∷ lines_of self.new.rest.now) }
-        ensures after { self.new.rest.now ≡ after_first self.old.rest.now }
-        ensures falls { IfSome result (λ x. length self.new.rest.now < length self.old.rest.now) }
-    {
+    fn next(&mut self) -> Option<&'a [u8]> {
         if self.rest.is_empty() {
             return None;
         }
-        let (line, rest) = cut(self.rest);
+        let (line, rest) = cut_at(self.rest, b'\n');
         self.rest = rest;
         Some(line)
     }

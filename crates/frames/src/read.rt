@@ -5,70 +5,98 @@
 //   03 deposit: the bytes of a packet
 //   04 withdrawal
 //   05 packet: its 1 to 645 bytes
-ghost use Rattle.std.specs.Prelude.{◌≡◌, ◌+◌, ◌^◌, ◌<◌, IfOk, Ok};
+ghost use Rattle.std.specs.Prelude.{◌≡◌, ◌≤◌, length, drop, IfOk, Ok, slice_index};
 ghost use Rattle.hexadecimal.specs.Hex.{decoded};
 ghost use Rattle.frames.specs.Written.{line_of};
-ghost use Rattle.frames.specs.Frames.{plain, plainly, reads, setup_in, two_at, eight_at, grant_of, answer_of, granted_in};
+ghost use Rattle.frames.specs.Codes.{framed_as};
+ghost use Rattle.frames.specs.Frames.{plain, plainly, reads, exactly, setup_in, grant_in, answer_of, granted_in, subframe_frame};
 
-use crate::frame::{Frame, SetupFrame};
-use hexadecimal::{byte_at, byte_len, is_whole};
+use crate::frame::{Code, Frame, SetupFrame};
+use hexadecimal::{Decoded, byte_len, get_byte, is_whole};
 use terms::answer::Refusal;
 use terms::grant::Grant;
+use terms::instruction::is_packet_size;
 use terms::process::Feedback;
 
-// The number in the two bytes at a place.
-fn two_at(line: &[u8], place: usize) -> u16
-    requires { place + 1 < 2 ^ 64 }
-    ensures { result ≡ two_at (decoded line.now) place }
+// The bytes of a line that has N of them.
+fn bytes_of<const N: usize>(line: &[u8]) -> Result<[u8; N], Refusal>
+    ensures { result ≡ exactly N (decoded line.now) }
 {
-    u16::from(byte_at(line, place)) * 256 + u16::from(byte_at(line, place + 1))
-}
-
-// The number in the eight bytes at a place.
-fn eight_at(line: &[u8], place: usize) -> u64
-    requires { place + 7 < 2 ^ 64 }
-    ensures { result ≡ eight_at (decoded line.now) place }
-{
-    let high = u64::from(two_at(line, place)) * 65536 + u64::from(two_at(line, place + 2));
-    let low = u64::from(two_at(line, place + 4)) * 65536 + u64::from(two_at(line, place + 6));
-    high * 4294967296 + low
+    if byte_len(line) != N {
+        return Err(Refusal::NotFrame);
+    }
+    let mut bytes = [0; N];
+    // by place: what is written through a zip of iter_mut is not known afterwards
+    for (k, byte) in Decoded::new(line).enumerate() {
+        bytes[k] = byte;
+    }
+    Ok(bytes)
 }
 
 // The fields of a set-up.
 fn setup(line: &[u8]) -> Result<SetupFrame, Refusal>
     ensures { result ≡ setup_in (decoded line.now) }
 {
-    if byte_len(line) != 16 {
-        return Err(Refusal::NotFrame);
-    }
+    let [
+        _,
+        kind,
+        max_harq_tx,
+        max_harq_msg3_tx,
+        i0,
+        i1,
+        s0,
+        s1,
+        s2,
+        s3,
+        s4,
+        s5,
+        s6,
+        s7,
+        period,
+        offset,
+    ] = bytes_of::<16>(line)?;
     Ok(SetupFrame {
-        kind: byte_at(line, 1),
-        max_harq_tx: byte_at(line, 2),
-        max_harq_msg3_tx: byte_at(line, 3),
-        interval: two_at(line, 4),
-        start: eight_at(line, 6),
-        period: byte_at(line, 14),
-        offset: byte_at(line, 15),
+        kind,
+        max_harq_tx,
+        max_harq_msg3_tx,
+        interval: u16::from_be_bytes([i0, i1]),
+        start: u64::from_be_bytes([s0, s1, s2, s3, s4, s5, s6, s7]),
+        period,
+        offset,
     })
 }
 
 // The fields of a subframe's grant.
-fn grant(line: &[u8]) -> Grant
-    ensures { result ≡ grant_of (decoded line.now) }
+fn grant(line: &[u8]) -> Result<Grant, Refusal>
+    ensures { result ≡ grant_in (decoded line.now) }
 {
-    Grant {
-        kind: byte_at(line, 2),
-        ndi: byte_at(line, 3),
-        mcs: byte_at(line, 4),
-        version: byte_at(line, 5),
-        process: byte_at(line, 6),
-        repetitions: byte_at(line, 7),
-        resource: two_at(line, 8),
-        size: two_at(line, 10),
-    }
+    let [
+        _,
+        _,
+        kind,
+        ndi,
+        mcs,
+        version,
+        process,
+        repetitions,
+        r0,
+        r1,
+        s0,
+        s1,
+    ] = bytes_of::<12>(line)?;
+    Ok(Grant {
+        kind,
+        ndi,
+        mcs,
+        version,
+        process,
+        repetitions,
+        resource: u16::from_be_bytes([r0, r1]),
+        size: u16::from_be_bytes([s0, s1]),
+    })
 }
 
-// The answer of an answer byte.
+// The answer of an answer byte; no TryFrom, since neither an Option nor a u8 is a type of this crate.
 fn answer(code: u8) -> Result<Option<Feedback>, Refusal>
     ensures { result ≡ answer_of code }
 {
@@ -84,10 +112,37 @@ fn answer(code: u8) -> Result<Option<Feedback>, Refusal>
 fn granted(line: &[u8]) -> Result<Option<Grant>, Refusal>
     ensures { result ≡ granted_in (decoded line.now) }
 {
-    match byte_len(line) {
-        2 => Ok(None),
-        12 => Ok(Some(grant(line))),
-        _ => Err(Refusal::NotFrame),
+    if byte_len(line) == 2 {
+        return Ok(None);
+    }
+    Ok(Some(grant(line)?))
+}
+
+// The frame of a line of code 02.
+fn subframe<'a>(line: &[u8]) -> Result<Frame<'a>, Refusal>
+    ensures { plainly result ≡ subframe_frame (answer_of (slice_index (decoded line.now) 1)) (granted_in (decoded line.now)) }
+{
+    let code = get_byte(line, 1).ok_or(Refusal::NotFrame)?;
+    Ok(Frame::Subframe {
+        answer: answer(code)?,
+        grant: granted(line)?,
+    })
+}
+
+// The frame of a line with this code.
+fn framed<'a>(code: Code, line: &'a [u8]) -> Result<Frame<'a>, Refusal>
+    requires { 2 ≤ length line.now }
+    ensures { plainly result ≡ framed_as code (decoded line.now) (drop 2 line.now) }
+{
+    let size = byte_len(line);
+    let digits = &line[2..];
+    match code {
+        Code::Setup => Ok(Frame::Setup(setup(line)?)),
+        Code::Subframe => subframe(line),
+        Code::Deposit => Ok(Frame::Deposit(digits)),
+        Code::Withdrawal if size == 1 => Ok(Frame::Withdrawal),
+        Code::Packet if is_packet_size(size - 1) => Ok(Frame::Packet(digits)),
+        Code::Withdrawal | Code::Packet => Err(Refusal::NotFrame),
     }
 }
 
@@ -95,22 +150,11 @@ fn granted(line: &[u8]) -> Result<Option<Grant>, Refusal>
 fn frame_of<'a>(line: &'a [u8]) -> Result<Frame<'a>, Refusal>
     ensures { plainly result ≡ reads line.now }
 {
-    let size = byte_len(line);
-    if line.len() == 0 || !is_whole(line) {
+    if !is_whole(line) {
         return Err(Refusal::NotHexadecimal);
     }
-    let (_, digits) = line.split_at(2);
-    match byte_at(line, 0) {
-        1 => Ok(Frame::Setup(setup(line)?)),
-        2 => Ok(Frame::Subframe {
-            answer: answer(byte_at(line, 1))?,
-            grant: granted(line)?,
-        }),
-        3 => Ok(Frame::Deposit(digits)),
-        4 if size == 1 => Ok(Frame::Withdrawal),
-        5 if 2 <= size && size <= 646 => Ok(Frame::Packet(digits)),
-        _ => Err(Refusal::NotFrame),
-    }
+    let code = get_byte(line, 0).ok_or(Refusal::NotHexadecimal)?;
+    framed(Code::try_from(code)?, line)
 }
 
 // The frame of a line: the one that is written as this line. A line that is empty, odd or not all digits is refused first, whatever its code.

@@ -1,13 +1,14 @@
 // Writing the line of a frame. The bytes are those that read.rt tells.
-ghost use Rattle.std.specs.Prelude.{◌≡◌, [], ◌∷◌, take, IfOk, Some, Ok, OnErr};
+ghost use Rattle.std.specs.Prelude.{◌≡◌, [], take, IfOk, Some, Ok, OnErr};
 ghost use Rattle.frames.specs.Frames.{plain, reads};
 ghost use Rattle.frames.specs.Trips.{SetupFits, GrantFits, FrameFits, NoLineFits};
 ghost use Rattle.frames.specs.Written.{spelled, setup_bytes, answer_byte, subframe_bytes, is_packet, line_of, written, after_writing};
 
-use crate::frame::{Frame, SetupFrame};
+use crate::frame::{Code, Frame, SetupFrame};
 use hexadecimal::{byte_len, encode_into, is_whole};
 use terms::answer::Refusal;
 use terms::grant::Grant;
+use terms::instruction::is_packet_size;
 use terms::process::Feedback;
 
 // Writes bytes in hexadecimal, and then digits, to the front of a stretch. A stretch that is short stays as it was.
@@ -15,44 +16,43 @@ fn spell(stretch: &mut [u8], bytes: &[u8], digits: &[u8]) -> Result<usize, Refus
     ensures value { result ≡ written stretch.old (Ok (spelled bytes.now digits.now)) }
     ensures after { stretch.new ≡ after_writing stretch.old (Ok (spelled bytes.now digits.now)) }
 {
-    let Some(room) = stretch.len().checked_sub(digits.len()) else {
-        return Err(Refusal::NotFrame);
-    };
-    let Some(end) = encode_into(&mut stretch[..room], bytes) else {
-        return Err(Refusal::NotFrame);
-    };
+    let room = stretch
+        .len()
+        .checked_sub(digits.len())
+        .ok_or(Refusal::NotFrame)?;
+    let end = encode_into(&mut stretch[..room], bytes).ok_or(Refusal::NotFrame)?;
     stretch[end..end + digits.len()].copy_from_slice(digits);
     Ok(end + digits.len())
 }
 
-// The bytes of a set-up.
+// The bytes of a set-up; no From, since `<[u8; 16]>::from(setup)` would say less than this name.
 fn setup_bytes(setup: SetupFrame) -> [u8; 16]
     ensures value { result ≡ setup_bytes setup }
     ensures fits { SetupFits setup }
 {
-    let interval = setup.interval.to_be_bytes();
-    let start = setup.start.to_be_bytes();
+    let [i0, i1] = setup.interval.to_be_bytes();
+    let [s0, s1, s2, s3, s4, s5, s6, s7] = setup.start.to_be_bytes();
     [
-        1,
+        u8::from(Code::Setup),
         setup.kind,
         setup.max_harq_tx,
         setup.max_harq_msg3_tx,
-        interval[0],
-        interval[1],
-        start[0],
-        start[1],
-        start[2],
-        start[3],
-        start[4],
-        start[5],
-        start[6],
-        start[7],
+        i0,
+        i1,
+        s0,
+        s1,
+        s2,
+        s3,
+        s4,
+        s5,
+        s6,
+        s7,
         setup.period,
         setup.offset,
     ]
 }
 
-// The answer byte.
+// The answer byte; no From, since neither an Option nor a u8 is a type of this crate.
 fn answer_byte(answer: Option<Feedback>) -> u8
     ensures { result ≡ answer_byte answer }
 {
@@ -63,15 +63,15 @@ fn answer_byte(answer: Option<Feedback>) -> u8
     }
 }
 
-// The bytes of a subframe with a grant.
+// The bytes of a subframe with a grant; no From, since two values make them.
 fn granted_bytes(answer: Option<Feedback>, grant: Grant) -> [u8; 12]
     ensures value { result ≡ subframe_bytes answer (Some grant) }
     ensures fits { GrantFits grant }
 {
-    let resource = grant.resource.to_be_bytes();
-    let size = grant.size.to_be_bytes();
+    let [r0, r1] = grant.resource.to_be_bytes();
+    let [s0, s1] = grant.size.to_be_bytes();
     [
-        2,
+        u8::from(Code::Subframe),
         answer_byte(answer),
         grant.kind,
         grant.ndi,
@@ -79,10 +79,10 @@ fn granted_bytes(answer: Option<Feedback>, grant: Grant) -> [u8; 12]
         grant.version,
         grant.process,
         grant.repetitions,
-        resource[0],
-        resource[1],
-        size[0],
-        size[1],
+        r0,
+        r1,
+        s0,
+        s1,
     ]
 }
 
@@ -90,8 +90,7 @@ fn granted_bytes(answer: Option<Feedback>, grant: Grant) -> [u8; 12]
 fn is_packet(digits: &[u8]) -> bool
     ensures { result ≡ is_packet digits.now }
 {
-    let size = byte_len(digits);
-    is_whole(digits) && (1 <= size && size <= 645)
+    is_whole(digits) && is_packet_size(byte_len(digits))
 }
 
 // Writes the line of a frame, if it has one and there is room for it.
@@ -105,14 +104,26 @@ fn put(stretch: &mut [u8], frame: Frame<'_>) -> Result<usize, Refusal>
         Frame::Subframe {
             answer,
             grant: None,
-        } => spell(stretch, &[2, answer_byte(answer)], &[]),
+        } => spell(
+            stretch,
+            &[u8::from(Code::Subframe), answer_byte(answer)],
+            &[],
+        ),
         Frame::Subframe {
             answer,
             grant: Some(grant),
         } => spell(stretch, &granted_bytes(answer, grant), &[]),
-        Frame::Deposit(digits) if is_whole(digits) => spell(stretch, &[3], digits),
-        Frame::Withdrawal => spell(stretch, &[4], &[]),
-        Frame::Packet(digits) if is_packet(digits) => spell(stretch, &[5], digits),
+        Frame::Deposit(digits) if is_whole(digits) => spell(
+            stretch,
+            &[u8::from(Code::Deposit)],
+            digits,
+        ),
+        Frame::Withdrawal => spell(stretch, &[u8::from(Code::Withdrawal)], &[]),
+        Frame::Packet(digits) if is_packet(digits) => spell(
+            stretch,
+            &[u8::from(Code::Packet)],
+            digits,
+        ),
         Frame::Deposit(_) | Frame::Packet(_) => Err(Refusal::NotFrame),
     }
 }

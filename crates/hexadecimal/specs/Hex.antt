@@ -1,5 +1,5 @@
 -- Lower-case hexadecimal text and the bytes that it stands for.
-use Rattle.std.specs.Prelude.{◌≡◌, ℕ, ◌+◌, ◌-◌, ◌*◌, ◌/◌, ◌%◌, ◌<◌, Bool, true, cond, ◌&&◌, ◌||◌, List, [], ◌∷◌, ◌++◌, length, take, drop, Some, None, Option, ◌==◌, nat_le, nat_lt, slice_set}
+use Rattle.std.specs.Prelude.{◌≡◌, ℕ, ◌+◌, ◌-◌, ◌*◌, ◌/◌, ◌%◌, ◌<◌, Bool, true, cond, ◌&&◌, ◌||◌, List, [], ◌∷◌, ◌++◌, length, take, drop, Some, None, Option, ◌==◌, nat_le, nat_lt}
 
 -- whether a character is one of 0 to 9 and a to f
 abbrev pub is_digit : ℕ → Bool
@@ -39,10 +39,6 @@ encoded (b ∷ bs) = digits_of b ++ encoded bs
 -- what is held is what was held before, and then a first part of what is new
 abbrev pub Partly : List ℕ → List ℕ → List ℕ → Type 0
 Partly old new held = (n : ℕ) × (held ≡ old ++ take n new)
-
--- a stretch with the digits of a byte where those of the byte at k stand
-abbrev pub digits_put : List ℕ → ℕ → ℕ → List ℕ
-digits_put o k b = slice_set (slice_set o (2 * k) (letter_of (b / 16))) (2 * k + 1) (letter_of (b % 16))
 
 -- whether a stretch has room for a text
 abbrev pub has_room : List ℕ → List ℕ → Bool

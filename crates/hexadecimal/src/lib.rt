@@ -1,8 +1,9 @@
-// Lower-case hexadecimal text and the bytes that it stands for.
+// Lower-case hexadecimal text and the bytes that it stands for. A digit is read by hand, since the library's reading takes capitals too.
 #![tactic(auto)]
 
-ghost use Rattle.std.specs.Prelude.{◌≡◌, ◌+◌, ◌*◌, ◌/◌, ◌<◌, ◌++◌, length, OnOk, nat_le, slice_index};
-ghost use Rattle.hexadecimal.specs.Hex.{is_digit, digit_of, letter_of, digits_of, all_digits, whole, decoded, encoded, Partly, digits_put, laid_length, laid, EncodedDecodes, DecodedEncodes, EncodedWhole, DecodedBytes};
+ghost use Rattle.std.specs.Prelude.{◌≡◌, ◌+◌, ◌*◌, ◌/◌, ◌<◌, ◌++◌, length, OnOk, nat_le, slice_get, slice_index};
+ghost use Rattle.std.specs.Iterator.{YieldsFirst, item_count};
+ghost use Rattle.hexadecimal.specs.Hex.{is_digit, digit_of, letter_of, digits_of, all_digits, whole, decoded, encoded, Partly, laid_length, laid, EncodedDecodes, DecodedEncodes, EncodedWhole, DecodedBytes};
 
 use std::alloc::AllocError;
 
@@ -13,7 +14,7 @@ fn is_digit(character: u8) -> bool
     matches!(character, b'0'..=b'9' | b'a'..=b'f')
 }
 
-// The value of a digit, and 0 for any other character.
+// The value of a digit, and 0 for any other character: a text stands for bytes whatever its characters are, and an Option would be undone at each use.
 fn digit(character: u8) -> u8
     ensures value { result ≡ digit_of character }
     ensures bound { result < 16 }
@@ -25,7 +26,7 @@ fn digit(character: u8) -> u8
     }
 }
 
-// The digit of a value below 16.
+// The digit of a value below 16; by hand, since the library writes digits to a text that grows, and these go into a given stretch too.
 fn letter(value: u8) -> u8
     requires { value < 16 }
     ensures { result ≡ letter_of value }
@@ -54,12 +55,7 @@ fn digits_of(byte: u8) -> [u8; 2]
 fn all_digits(text: &[u8]) -> bool
     ensures { result ≡ all_digits text.now }
 {
-    for character in text {
-        if !is_digit(*character) {
-            return false;
-        }
-    }
-    true
+    text.iter().all(|character| is_digit(*character))
 }
 
 // Whether a text is whole bytes in lower-case hexadecimal.
@@ -77,14 +73,52 @@ pub fn byte_len(text: &[u8]) -> usize
     text.len() / 2
 }
 
-// The byte at a place of a text, and 0 past the end.
+// The byte at a place of a text, if there is one.
+pub fn get_byte(text: &[u8], k: usize) -> Option<u8>
+    ensures { result ≡ slice_get (decoded text.now) k }
+{
+    if k < byte_len(text) {
+        Some(byte_of(text[2 * k], text[2 * k + 1]))
+    } else {
+        None
+    }
+}
+
+// The byte at a place of a text, and 0 past the end. It stands beside get_byte since its promise is public.
 pub fn byte_at(text: &[u8], k: usize) -> u8
     ensures { result ≡ slice_index (decoded text.now) k }
 {
-    if k < byte_len(text) {
-        byte_of(text[2 * k], text[2 * k + 1])
-    } else {
-        0
+    get_byte(text, k).unwrap_or(0)
+}
+
+// A walk over the bytes of a text.
+#[derive(Clone, Copy)]
+pub struct Decoded<'a> {
+    // the digits that are still to come
+    pub text: &'a [u8],
+}
+
+impl<'a> Decoded<'a> {
+    // All bytes of a text.
+    pub fn new(text: &'a [u8]) -> Decoded<'a>
+        ensures { result.text.now ≡ text.now }
+    {
+        Decoded { text }
+    }
+}
+
+impl<'a> Iterator for Decoded<'a> {
+    type Item = u8;
+
+    ghost next_gives = { YieldsFirst (λ s. decoded s.text.now) };
+
+    ghost remaining = { item_count (λ s. decoded s.text.now) };
+
+    // The next byte, if there is one.
+    fn next(&mut self) -> Option<u8> {
+        let ([high, low], rest) = self.text.split_first_chunk::<2>()?;
+        self.text = rest;
+        Some(byte_of(*high, *low))
     }
 }
 
@@ -93,8 +127,8 @@ pub fn decode_onto(v: &mut Vec<u8>, text: &[u8]) -> Result<(), AllocError>
     ensures all { OnOk result (v.new.items ≡ v.old.items ++ decoded text.now) }
     ensures part { Partly v.old.items (decoded text.now) v.new.items }
 {
-    for k in 0..byte_len(text) {
-        v.push(byte_at(text, k))?;
+    for byte in Decoded::new(text) {
+        v.push(byte)?;
     }
     Ok(())
 }
@@ -108,15 +142,6 @@ pub fn encode_onto(v: &mut Vec<u8>, bytes: &[u8]) -> Result<(), AllocError>
         v.extend_from_slice(&digits_of(*byte))?;
     }
     Ok(())
-}
-
-// Writes the digits of a byte where those of the byte at a place stand.
-fn put_digits(stretch: &mut [u8], k: usize, byte: u8)
-    requires { 2 * k + 1 < length stretch.old }
-    ensures { stretch.new ≡ digits_put stretch.old k byte }
-{
-    stretch[2 * k] = letter(byte / 16);
-    stretch[2 * k + 1] = letter(byte % 16);
 }
 
 // Whether a stretch has room for the digits of some bytes.
@@ -134,8 +159,9 @@ pub fn encode_into(stretch: &mut [u8], bytes: &[u8]) -> Option<usize>
     if !has_room(stretch, bytes) {
         return None;
     }
+    // by place: what is written through chunks_exact_mut is not known afterwards
     for (k, byte) in bytes.iter().enumerate() {
-        put_digits(stretch, k, *byte);
+        stretch[2 * k..2 * k + 2].copy_from_slice(&digits_of(*byte));
     }
     Some(2 * bytes.len())
 }

@@ -9,7 +9,7 @@ pub trait Radio {
     // the instructions taken, the latest of them, and how many can be taken in all
     ghost radioed: { Self → Radioed };
 
-    // the ghost name of the bytes that the radio lies over, or 0 where it has its own: it never changes
+    // the ghost name of the bytes that the radio lies over, or 0 where it has its own: it never changes (a name is a number, and no Option, in the prover)
     ghost lender: { Self → ℕ };
 
     // Whether one more instruction can be taken.

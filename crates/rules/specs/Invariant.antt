@@ -16,24 +16,6 @@ use Rattle.terms.specs.declared.state.Repetition.{Repetition}
 use Rattle.rules.specs.Process.{synchronous, holds_packet, maximum}
 use Rattle.rules.specs.Entity.{process_at, Fresh, obtained}
 
--- every CURRENT_IRV is a place of the sequence
-abbrev pub Indices : List Process → Type 0
-Indices ps = (k : ℕ) → k < 8 → (process_at ps k).current_irv.0 < 4
-
-abbrev pub Counts : List Process → Type 0
-Counts ps = (k : ℕ) → k < 8 → (process_at ps k).current_tx_nb < 28
-
--- a held packet has 1 to 645 bytes
-abbrev pub NotEmpty : List Process → Type 0
-NotEmpty ps = (k : ℕ) → k < 8 → 1 ≤ unwrap_or (process_at ps k).buffer 1
-
-abbrev pub NotLong : List Process → Type 0
-NotLong ps = (k : ℕ) → k < 8 → unwrap_or (process_at ps k).buffer 1 ≤ 645
-
--- a packet that a synchronous cell holds has a transmission left
-abbrev pub Limits : Setup → List Process → Type 0
-Limits su ps = (k : ℕ) → k < 8 → (holds_packet (process_at ps k) && synchronous su.kind) ≡ true → (process_at ps k).current_tx_nb + 1 < maximum su (process_at ps k).from_msg3
-
 -- the size of the stored grant, and 1 where there is none
 abbrev pub stored_size : Option ConfiguredGrant → ℕ
 stored_size None = 1
@@ -46,10 +28,13 @@ repeated_process (Some r) = r.process
 
 -- a process between calls
 pub record Good (su : Setup) (p : Process) : Type 0 where
+  -- CURRENT_IRV is a place of the sequence
   pub index : p.current_irv.0 < 4
   pub count : p.current_tx_nb < 28
+  -- a held packet has 1 to 645 bytes
   pub not_empty : 1 ≤ unwrap_or p.buffer 1
   pub not_long : unwrap_or p.buffer 1 ≤ 645
+  -- a packet that a synchronous cell holds has a transmission left
   pub limit : (holds_packet p && synchronous su.kind) ≡ true → p.current_tx_nb + 1 < maximum su p.from_msg3
 
 -- a process that is about to transmit

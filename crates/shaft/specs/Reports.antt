@@ -1,5 +1,5 @@
 -- What a line of the report shows.
-use Rattle.std.specs.Prelude.{ℕ, Bool, true, false, List, None, codes, Option}
+use Rattle.std.specs.Prelude.{Bool, true, false, None, Option}
 use Rattle.terms.specs.Sendings.{Sending}
 use Rattle.terms.specs.declared.answer.Outcome.{Outcome}
 use Rattle.terms.specs.declared.answer.Outcome.TheVariants.{Idle, EmptyBuffer, NoPacket, Sent, Gap, Acknowledged}
@@ -12,15 +12,6 @@ tells_of NoPacket = true
 tells_of Sent = true
 tells_of Gap = true
 tells_of Acknowledged = true
-
--- what an outcome is called
-abbrev pub word_of : Outcome → List ℕ
-word_of Idle = codes "idle"
-word_of EmptyBuffer = codes "empty buffer"
-word_of NoPacket = codes "no packet"
-word_of Sent = codes "sent"
-word_of Gap = codes "gap"
-word_of Acknowledged = codes "acknowledged"
 
 -- what was sent in a subframe, by its outcome and the latest sending
 abbrev pub sent_of : Outcome → Option Sending → Option Sending

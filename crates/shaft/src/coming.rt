@@ -2,7 +2,7 @@
 ghost use Rattle.std.specs.Prelude.{◌≡◌};
 ghost use Rattle.shaft.specs.Coming.{c_rnti_grant, grant_coming, answer_coming};
 
-use terms::grant::Grant;
+use terms::grant::{Grant, GrantKind};
 use terms::process::Feedback;
 
 // A C-RNTI grant.
@@ -10,7 +10,7 @@ fn grant(ndi: u8, mcs: u8, size: u16) -> Grant
     ensures { result ≡ c_rnti_grant ndi mcs size }
 {
     Grant {
-        kind: 0,
+        kind: GrantKind::CRnti as u8,
         ndi,
         mcs,
         version: 0,

@@ -8,15 +8,12 @@ mod ride;
 use crate::coming::{answer_at, grant_at};
 use crate::report::{Line, Slot};
 use crate::ride::Ride;
-use anyhow::anyhow;
 use below::spans::Span;
 use cell::cell::Cell;
 use slot::SLOT;
 use std::io;
 use terms::answer::Reply;
-
-// The number of a plain cell.
-const PLAIN: u8 = 0;
+use terms::setup::CellKind;
 
 // How often a packet is sent at most.
 const MAX_HARQ_TX: u8 = 3;
@@ -60,8 +57,7 @@ fn descend(rt: &HostRuntime, ride: &mut Ride<'_>) -> io::Result<()> {
         match ride.pass(answer_at(subframe), grant_at(subframe)) {
             Ok(reply) => tell(rt, ride, subframe, reply)?,
             Err(refusal) => {
-                let number = refusal.number();
-                println!(rt; "{subframe:>3}  refused with {number}")?;
+                println!(rt; "{subframe:>3}  {refusal}")?;
             }
         }
     }
@@ -74,6 +70,7 @@ fn sum_up(rt: &HostRuntime, ride: &Ride<'_>) -> io::Result<()> {
     let packets = tally.packets;
     let sendings = tally.sendings;
     println!(rt; "{packets} packets begun, {sendings} sendings made")?;
+    // by number, which is written too
     for number in 0..ride.taken() {
         if let Some(sending) = ride.sending(number) {
             let slot = Slot { number, sending };
@@ -83,17 +80,11 @@ fn sum_up(rt: &HostRuntime, ride: &Ride<'_>) -> io::Result<()> {
     Ok(())
 }
 
-fn run(rt: &HostRuntime) -> anyhow::Result<()> {
-    let Ok(cell) = Cell::set_up(PLAIN, MAX_HARQ_TX, MAX_HARQ_TX, 0, 0) else {
-        return Err(anyhow!("the set-up was refused"));
-    };
-    let mut tape = [0; TAPE];
-    let mut ride = Ride::new(cell, &mut tape, &RECORDS, UNIT, &GAPS);
-    descend(rt, &mut ride)?;
-    sum_up(rt, &ride)?;
-    Ok(())
-}
-
 fn main(rt: HostRuntime) -> anyhow::Result<()> {
-    run(&rt)
+    let mut tape = [0; TAPE];
+    let cell = Cell::set_up(CellKind::Plain as u8, MAX_HARQ_TX, MAX_HARQ_TX, 0, 0)?;
+    let mut ride = Ride::new(cell, &mut tape, &RECORDS, UNIT, &GAPS);
+    descend(&rt, &mut ride)?;
+    sum_up(&rt, &ride)?;
+    Ok(())
 }

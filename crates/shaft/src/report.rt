@@ -1,7 +1,7 @@
 // The report: a line for each subframe that did something.
 ghost use Rattle.std.specs.Prelude.{◌≡◌, take};
 ghost use Rattle.terms.specs.Sendings.{told_of};
-ghost use Rattle.shaft.specs.Reports.{tells_of, word_of, sent_of};
+ghost use Rattle.shaft.specs.Reports.{tells_of, sent_of};
 
 use std::fmt;
 use terms::answer::{Outcome, Reply};
@@ -17,20 +17,6 @@ fn front(packet: &[u8]) -> &[u8]
     &packet[0..packet.len().min(SHOWN)]
 }
 
-// What an outcome is called.
-fn word(outcome: Outcome) -> &'static str
-    ensures { result.now ≡ word_of outcome }
-{
-    match outcome {
-        Outcome::Idle => "idle",
-        Outcome::EmptyBuffer => "empty buffer",
-        Outcome::NoPacket => "no packet",
-        Outcome::Sent => "sent",
-        Outcome::Gap => "gap",
-        Outcome::Acknowledged => "acknowledged",
-    }
-}
-
 // What a subframe came to, with the latest sending.
 #[derive(Clone, Copy)]
 pub(crate) struct Line<'a> {
@@ -44,7 +30,7 @@ impl Line<'_> {
     pub(crate) fn tells(&self) -> bool
         ensures { result ≡ tells_of self.now.reply.outcome }
     {
-        !matches!(self.reply.outcome, Outcome::Idle)
+        self.reply.outcome != Outcome::Idle
     }
 
     // What was sent in the subframe, if anything was.
@@ -78,9 +64,9 @@ impl fmt::Display for Line<'_> {
     fn fmt<W: fmt::Write>(&self, f: &mut fmt::Formatter<W>) -> fmt::Result {
         let subframe = self.subframe;
         let process = self.reply.process;
-        let word = word(self.reply.outcome);
+        let outcome = self.reply.outcome;
         let sending = self.sending();
-        write!(f, "{subframe:>3}  process {process}  {word}")?;
+        write!(f, "{subframe:>3}  process {process}  {outcome}")?;
         if let Some(sending) = sending {
             let version = sending.version.0;
             write!(f, ", version {version}")?;

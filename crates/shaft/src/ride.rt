@@ -31,6 +31,7 @@ pub(crate) struct Ride<'a> {
 }
 
 impl<'a> Ride<'a> {
+    // It takes a cell that was set up: the check covers no Result of a struct that holds a `&mut` and a cell.
     // A cell over a tape that has taken nothing, a book of which nothing is used over a unit's heartbeat, and spans.
     pub(crate) fn new(
         cell: Cell,
@@ -89,10 +90,8 @@ impl<'a> Ride<'a> {
     pub(crate) fn latest(&self) -> Option<Instruction<'_>>
         ensures { told_of result ≡ (tape_radioed self.now.radio).latest }
     {
-        match self.taken() {
-            0 => None,
-            n => self.sending(n - 1),
-        }
+        let last = self.taken().checked_sub(1)?;
+        self.sending(last)
     }
 
     // The subframe that comes next.

@@ -2,7 +2,6 @@
 use cabins::report::report;
 use site::figure::cabin_figure;
 use site::tallies::site_figure;
-use std::alloc::Global;
 use std::test::Fail;
 use terms::answer::Refusal;
 use terms::tally::Tally;
@@ -17,55 +16,49 @@ const OLD: Tally = Tally {
     figure: 9,
 };
 
-#[derive(Clone, Copy)]
-struct Cabin {
-    packets: u64,
-    sendings: u64,
-    figure: u64,
-}
-
-const CABINS: [Cabin; 9] = [
-    Cabin {
+// Tallies with their own figures.
+const CABINS: [Tally; 9] = [
+    Tally {
         packets: 0,
         sendings: 0,
         figure: 0,
     },
-    Cabin {
+    Tally {
         packets: 0,
         sendings: 5,
         figure: 0,
     },
-    Cabin {
+    Tally {
         packets: 1,
         sendings: 1,
         figure: 100,
     },
-    Cabin {
+    Tally {
         packets: 3,
         sendings: 4,
         figure: 133,
     },
-    Cabin {
+    Tally {
         packets: 7,
         sendings: 20,
         figure: 285,
     },
-    Cabin {
+    Tally {
         packets: 201,
         sendings: 2,
         figure: 0,
     },
-    Cabin {
+    Tally {
         packets: LARGEST,
         sendings: LARGEST,
         figure: 100,
     },
-    Cabin {
+    Tally {
         packets: LARGEST,
         sendings: 1,
         figure: 0,
     },
-    Cabin {
+    Tally {
         packets: 1,
         sendings: LARGEST,
         figure: 109_951_162_777_600,
@@ -76,16 +69,10 @@ const CABINS: [Cabin; 9] = [
 #[test]
 fn cabins(rt: HostRuntime) {
     for cabin in CABINS {
-        let mut site = [Tally {
-            packets: cabin.packets,
-            sendings: cabin.sendings,
-            figure: 9,
-        }];
+        let mut site = [Tally { figure: 9, ..cabin }];
         assert_eq!(rt; cabin_figure(&site[0]), Ok(cabin.figure));
         assert_eq!(rt; site_figure(&mut site), Ok(cabin.figure));
-        assert_eq!(rt; site[0].figure, cabin.figure);
-        assert_eq!(rt; site[0].packets, cabin.packets);
-        assert_eq!(rt; site[0].sendings, cabin.sendings);
+        assert_eq!(rt; site[0], cabin);
     }
 }
 
@@ -110,9 +97,7 @@ fn sums(rt: HostRuntime) {
         },
     ];
     assert_eq!(rt; site_figure(&mut site), Ok(150));
-    assert_eq!(rt; site[0].figure, 300);
-    assert_eq!(rt; site[1].figure, 100);
-    assert_eq!(rt; site[2].figure, 0);
+    assert_eq!(rt; site.map(|tally| tally.figure), [300, 100, 0]);
 }
 
 // 1 to 400 cabins.
@@ -125,10 +110,10 @@ fn sizes(rt: HostRuntime) {
     assert_eq!(rt; one[0].figure, 150);
     let mut most = [OLD; 400];
     assert_eq!(rt; site_figure(&mut most), Ok(150));
-    assert!(rt; most[0].figure == 150 && most[399].figure == 150);
+    assert!(rt; most.iter().all(|tally| tally.figure == 150));
     let mut more = [OLD; 401];
     assert_eq!(rt; site_figure(&mut more), Err(Refusal::SiteList));
-    assert!(rt; more[0].figure == 9 && more[400].figure == 9);
+    assert!(rt; more.iter().all(|tally| tally.figure == 9));
 }
 
 // A lent part of a list is a site of its own.
@@ -136,7 +121,7 @@ fn sizes(rt: HostRuntime) {
 fn parts(rt: HostRuntime) {
     let mut site = [OLD; 3];
     assert_eq!(rt; site_figure(&mut site[1..2]), Ok(150));
-    assert!(rt; site[0].figure == 9 && site[1].figure == 150 && site[2].figure == 9);
+    assert_eq!(rt; site.map(|tally| tally.figure), [9, 150, 9]);
 }
 
 // 400 cabins with the largest counts.
@@ -148,7 +133,7 @@ fn largest_site(rt: HostRuntime) {
         figure: 9,
     }; 400];
     assert_eq!(rt; site_figure(&mut site), Ok(100));
-    assert_eq!(rt; site[399].figure, 100);
+    assert!(rt; site.iter().all(|tally| tally.figure == 100));
 }
 
 // A count above 2^40, wherever it stands, and nothing is written.
@@ -166,11 +151,12 @@ fn counts(rt: HostRuntime) {
     };
     for large in [packets, sendings] {
         assert_eq!(rt; cabin_figure(&large), Err(Refusal::SiteList));
+        // by place, since each in turn has the large count
         for place in 0..3 {
             let mut site = [OLD; 3];
             site[place] = large;
             assert_eq!(rt; site_figure(&mut site), Err(Refusal::SiteList));
-            assert!(rt; site[0].figure == 9 && site[1].figure == 9 && site[2].figure == 9);
+            assert!(rt; site.iter().all(|tally| tally.figure == 9));
         }
     }
 }

@@ -1,11 +1,11 @@
 -- A slot has 661 bytes, and gives back its sending.
-use Rattle.std.proofs.Common.{◌≡◌, ℕ, ◌+◌, ◌-◌, ◌*◌, ◌/◌, ◌%◌, ◌^◌, ◌<◌, ◌≤◌, true, leb, List, [], ◌++◌, length, take, drop, replicate, Some, sym, refl, ap, ◌∙◌, append_assoc, append-nil, arith, length-append, rules}
+use Rattle.std.proofs.Common.{◌≡◌, ℕ, ◌+◌, ◌-◌, ◌*◌, ◌/◌, ◌%◌, ◌^◌, ◌<◌, ◌≤◌, true, leb, List, [], ◌++◌, length, take, drop, replicate, Some, slice_index, sym, refl, ap, ◌∙◌, append_assoc, append-nil, arith, length-append, rules}
 use borrow.Rule.Slice.PartMut.{put_mid}
 use lib.ListN.{length-replicate}
-use Rattle.std.proofs.lemmas.List.{take_at, drop_at, drop-replicate}
+use Rattle.std.proofs.lemmas.List.{take_at, drop_at, drop-replicate, get_or-take, get_or-drop, drop-drop}
 use Rattle.terms.specs.Sendings.{Sending, is_packet}
 use Rattle.terms.specs.declared.version.RedundancyVersion.{RedundancyVersion}
-use Rattle.slot.specs.Slots.{heading, slot_of, decoded, is_slot, said_by, two_at, FitsSlot}
+use Rattle.slot.specs.Slots.{heading, slot_of, decoded, is_slot, said_by, two_at, first_eight, FitsSlot}
 
 -- eight bytes and two bytes of a number make up the number
 eight : (n : ℕ) → n < 2 ^ 64 → n / 72057594037927936 % 256 * 72057594037927936 + n / 281474976710656 % 256 * 281474976710656 + n / 1099511627776 % 256 * 1099511627776 + n / 4294967296 % 256 * 4294967296 + n / 16777216 % 256 * 16777216 + n / 65536 % 256 * 65536 + n / 256 % 256 * 256 + n % 256 ≡ n
@@ -65,3 +65,18 @@ written h h' z p p' m k eh lh ez em ep ek l =
     let d : drop 16 (h ++ drop 16 z) ≡ drop 16 z = drop_at h (drop 16 z) 16 lh in
     let r : drop k (drop 16 z) ≡ replicate (645 - length p) 0 = rw (ez, em, ek, drop-replicate {X = ℕ} 16 661 0, drop-replicate {X = ℕ} (length p) 645 0) in
     rw (eh, ep, t, d, r)
+
+-- the parts of some bytes: the eight first, then four, two, two, and the rest
+pub record Parts (b s f r n t : List ℕ) : Type 0 where
+  pub subframe : s ≡ take 8 b
+  pub fields : f ≡ take 4 (drop 8 b)
+  pub resource : r ≡ take 2 (drop 4 (drop 8 b))
+  pub size : n ≡ take 2 (drop 2 (drop 4 (drop 8 b)))
+  pub rest : t ≡ drop 2 (drop 2 (drop 4 (drop 8 b)))
+
+pub stated_parts : (b s f r n t : List ℕ) → Parts b s f r n t → two_at n 0 ≡ two_at b 14
+stated_parts b s f r n t p = rw p.size (simp drop-drop (search (rules, get_or-take, get_or-drop)))
+
+-- what the parts say, the bytes say
+pub said_parts : (b s f r n t : List ℕ) → Parts b s f r n t → sending (first_eight s) (slice_index f 0) (record { 0 = slice_index f 1 }) (slice_index f 2) (two_at r 0) (take (two_at n 0) t) ≡ said_by b
+said_parts b s f r n t p = rw (p.subframe, p.fields, p.resource, p.size, p.rest) (simp drop-drop (search (rules, get_or-take, get_or-drop)))

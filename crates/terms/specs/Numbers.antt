@@ -1,5 +1,7 @@
--- The number of each answer, and of each kind of cell.
-use Rattle.std.specs.Prelude.{ℕ, cond, Some, None, Option, ◌==◌}
+-- The number of each answer, and of each kind of cell and of grant; and what an answer is called.
+use Rattle.std.specs.Prelude.{ℕ, cond, List, ◌++◌, Some, None, codes, decimal, Option, ◌==◌}
+use Rattle.terms.specs.declared.grant.GrantKind.{GrantKind}
+use Rattle.terms.specs.declared.grant.GrantKind.TheVariants.{CRnti, TemporaryCRnti, SpsCRnti, SpsRelease, RandomAccessResponse}
 use Rattle.terms.specs.declared.setup.CellKind.{CellKind}
 use Rattle.terms.specs.declared.setup.CellKind.TheVariants.{Plain, Bundled, Asynchronous}
 use Rattle.terms.specs.declared.answer.Outcome.{Outcome}
@@ -9,6 +11,14 @@ use Rattle.terms.specs.declared.answer.Refusal.TheVariants as refusal
 
 abbrev pub cell_kind_of : ℕ → Option CellKind
 cell_kind_of n = cond (n == 0) (Some Plain) (cond (n == 1) (Some Bundled) (cond (n == 2) (Some Asynchronous) None))
+
+-- the number of a kind of grant
+abbrev pub grant_kind_number : GrantKind → ℕ
+grant_kind_number CRnti = 0
+grant_kind_number TemporaryCRnti = 1
+grant_kind_number SpsCRnti = 2
+grant_kind_number SpsRelease = 3
+grant_kind_number RandomAccessResponse = 4
 
 abbrev pub outcome_number : Outcome → ℕ
 outcome_number Idle = 0
@@ -38,3 +48,16 @@ refusal_number refusal.NotHexadecimal = 16
 refusal_number refusal.NotFrame = 17
 refusal_number refusal.SiteList = 18
 refusal_number refusal.GapPattern = 19
+
+-- what an outcome is called
+abbrev pub outcome_words : Outcome → List ℕ
+outcome_words Idle = codes "idle"
+outcome_words EmptyBuffer = codes "empty buffer"
+outcome_words NoPacket = codes "no packet"
+outcome_words Sent = codes "sent"
+outcome_words Gap = codes "gap"
+outcome_words Acknowledged = codes "acknowledged"
+
+-- what a refusal is called
+abbrev pub refusal_words : Refusal → List ℕ
+refusal_words e = codes "refused with " ++ decimal (refusal_number e)

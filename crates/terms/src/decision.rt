@@ -28,7 +28,7 @@ pub enum Work {
     Rest(Outcome, Process),
     // a new transmission
     New(Process),
-    // a retransmission; the mark says that an ACK keeps it off the air
+    // a retransmission; the mark, which the rules reckon with, says that an ACK keeps it off the air
     Again(Process, bool),
 }
 

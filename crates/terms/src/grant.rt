@@ -1,10 +1,43 @@
 // Uplink grants: as they come, as they are in force, and as they are stored.
+ghost use Rattle.std.specs.Prelude.{◌≡◌, ◌<◌, MatchResult};
+ghost use Rattle.terms.specs.declared.answer.Refusal.{Refusal};
+ghost use Rattle.terms.specs.Numbers.{grant_kind_number};
+
+use crate::answer::Refusal;
 use crate::version::RedundancyVersion;
+
+// What a grant over the air is for.
+#[derive(Clone, Copy, PartialEq, Eq, Debug)]
+pub enum GrantKind {
+    CRnti,
+    TemporaryCRnti,
+    SpsCRnti,
+    SpsRelease,
+    RandomAccessResponse,
+}
+
+// The kind of a number from 0 to 4.
+impl TryFrom<u8> for GrantKind {
+    type Error = Refusal;
+
+    ghost try_from_gives = { λ number kind. MatchResult kind (λ k. number ≡ grant_kind_number k) (λ e. (4 < number) × (e ≡ Refusal.GrantFields)) };
+
+    fn try_from(number: u8) -> Result<GrantKind, Refusal> {
+        match number {
+            0 => Ok(GrantKind::CRnti),
+            1 => Ok(GrantKind::TemporaryCRnti),
+            2 => Ok(GrantKind::SpsCRnti),
+            3 => Ok(GrantKind::SpsRelease),
+            4 => Ok(GrantKind::RandomAccessResponse),
+            _ => Err(Refusal::GrantFields),
+        }
+    }
+}
 
 // A grant as it comes over the air; any value can stand in any field.
 #[derive(Clone, Copy)]
 pub struct Grant {
-    // 0 C-RNTI, 1 Temporary C-RNTI, 2 SPS C-RNTI, 3 SPS release, 4 Random Access Response
+    // the number of a GrantKind; no GrantKind, since a call takes every number and refuses those of none
     pub kind: u8,
     pub ndi: u8,
     pub mcs: u8,
@@ -31,7 +64,7 @@ pub enum Reception {
     RandomAccessResponse,
 }
 
-// The grant that counts in a subframe.
+// The grant that counts in a subframe. It holds no Grant: what came over the air as numbers of any value is here of a kind, in a version.
 #[derive(Clone, Copy)]
 pub struct GrantInForce {
     pub reception: Reception,

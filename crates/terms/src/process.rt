@@ -9,7 +9,7 @@ pub enum Feedback {
 
 #[derive(Clone, Copy)]
 pub struct Process {
-    // the HARQ buffer: empty, or the length of the packet in the process's stretch of packet memory
+    // the HARQ buffer: empty, or the length of the packet in the process's stretch of packet memory, which is lent and can hold no Vec
     pub buffer: Option<u16>,
     pub from_msg3: bool,
     pub current_tx_nb: u8,

@@ -1,6 +1,10 @@
 // What a cell is set up with.
 ghost use Rattle.std.specs.Prelude.{◌≡◌};
+ghost use Rattle.std.specs.Option.{ok_or};
+ghost use Rattle.terms.specs.declared.answer.Refusal.{Refusal};
 ghost use Rattle.terms.specs.Numbers.{cell_kind_of};
+
+use crate::answer::Refusal;
 
 #[derive(Clone, Copy, PartialEq, Eq, Debug)]
 pub enum CellKind {
@@ -12,16 +16,18 @@ pub enum CellKind {
     Asynchronous,
 }
 
-impl CellKind {
-    // The kind of a number, if there is one.
-    pub fn from_number(number: u8) -> Option<CellKind>
-        ensures { result ≡ cell_kind_of number }
-    {
+// The kind of a number, if there is one.
+impl TryFrom<u8> for CellKind {
+    type Error = Refusal;
+
+    ghost try_from_gives = { λ number kind. kind ≡ ok_or (cell_kind_of number) Refusal.CellKind };
+
+    fn try_from(number: u8) -> Result<CellKind, Refusal> {
         match number {
-            0 => Some(CellKind::Plain),
-            1 => Some(CellKind::Bundled),
-            2 => Some(CellKind::Asynchronous),
-            _ => None,
+            0 => Ok(CellKind::Plain),
+            1 => Ok(CellKind::Bundled),
+            2 => Ok(CellKind::Asynchronous),
+            _ => Err(Refusal::CellKind),
         }
     }
 }
@@ -33,7 +39,7 @@ pub struct Setup {
     pub max_harq_tx: u8,
     // maxHARQ-Msg3Tx
     pub max_harq_msg3_tx: u8,
-    // semiPersistSchedIntervalUL in subframes; 0 where there are no configured grants
+    // semiPersistSchedIntervalUL in subframes; 0 where there are no configured grants: the number that set-up takes and the rules compare with 10, which an Option would only translate there and back
     pub interval: u16,
     // the first subframe
     pub start: u64,

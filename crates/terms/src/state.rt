@@ -10,7 +10,7 @@ pub struct Repetition {
 }
 
 // Packets begun and sendings made since set-up.
-#[derive(Clone, Copy)]
+#[derive(Clone, Copy, PartialEq, Eq, Debug)]
 pub struct Tally {
     pub packets: u64,
     pub sendings: u64,
@@ -21,7 +21,7 @@ pub struct State {
     pub processes: [Process; 8],
     pub configured: Option<ConfiguredGrant>,
     pub repetition: Option<Repetition>,
-    // the length of the packet in the Msg3 buffer
+    // the length of the packet in the Msg3 buffer, a stretch of packet memory too
     pub msg3: Option<u16>,
     pub tally: Tally,
     // the subframe that comes next

@@ -17,7 +17,7 @@ use Rattle.below.proofs.Records.{left_source_after}
 use Rattle.cell.specs.Calls.{After, after_result, after_subframe}
 use Rattle.cell.specs.Cells.{with_fresh_state}
 use Rattle.trace.specs.Standing.{Standing, Answered, admitted_by, replied, after_answer, called}
-use Rattle.trace.specs.declared.session.Answer.{Answer}
+use Rattle.trace.specs.declared.session.Accepted.{Accepted}
 
 -- a set-up that was refused, and one that was accepted
 pub setup_refused : (x : Result Setup Refusal) (p : Result (ℕ × ℕ) Refusal) (e : Refusal) → Err e ≡ with_fresh_state x → Err e ≡ admitted_by x p
@@ -56,10 +56,10 @@ result_left st m r b (Err e) = refl
 result_left st m r b (Ok d) = let e = left_source_after b d.asked ∙ same_left (left b) d.asked in λ i. record { answer = Ok d.reply; state = d.state; memory = d.memory; radio = (after_result book_offers book_used st m r b (Ok d)).radio; source = e i }
 
 -- what is left of a cell, a mailbox and a book after a call
-abbrev after_over : Standing → Setup → Answer → After (List ℕ) (Result Reply Refusal) → Answered
+abbrev after_over : Standing → Setup → Result Accepted Refusal → After (List ℕ) (Result Reply Refusal) → Answered
 after_over s su a x = record { answer = a; standing = record { setup = su; state = x.state; period = s.period; offset = s.offset; memory = x.memory; radio = x.radio; left = x.source } }
 
-pub called_whole : (s : Standing) (b : Book) (su : Setup) (v : Answer) (a : Option Feedback) (g : Option Grant) (x : After Book (Result Reply Refusal))
+pub called_whole : (s : Standing) (b : Book) (su : Setup) (v : Result Accepted Refusal) (a : Option Feedback) (g : Option Grant) (x : After Book (Result Reply Refusal))
     → v ≡ replied x.answer → su ≡ s.setup → s.left ≡ left b
     → x ≡ after_subframe book_offers book_used s.setup s.state s.memory s.radio b (gaps_of s.period s.offset s.state.clock) a g
     → after_over s su v (over_left x) ≡ called s a g

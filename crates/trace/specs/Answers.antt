@@ -1,5 +1,5 @@
 -- The text of the answers to a trace.
-use Rattle.std.specs.Prelude.{ℕ, List, [], ◌∷◌, ◌++◌, Ok, Err, Result}
+use Rattle.std.specs.Prelude.{◌≡◌, ℕ, List, [], ◌∷◌, ◌++◌, Some, None, Ok, Err, Option, Result}
 use Rattle.frames.specs.Frames.{reads}
 use Rattle.frames.specs.Lines.{lines_of}
 use Rattle.frames.specs.Books.{book_of}
@@ -29,3 +29,13 @@ answers_before records (l ∷ ls) = answers_by (equipped (reads l)) records (ans
 -- the answers to a trace, whose packet lines are in the book from the beginning
 abbrev pub answers : List ℕ → List ℕ
 answers t = answers_before (book_of t) (lines_of t)
+
+-- a line before the set-up was answered, by what it sets up: the trace stands as at set-up, or where it stood
+abbrev pub Begun : Result Equipment Refusal → List ℕ → Option Standing → Option Standing → List ℕ → List ℕ → Type 0
+Begun (Ok q) records new old v v' = (new ≡ Some (at_first q records)) × (v' ≡ v ++ setup_text)
+Begun (Err e) records new old v v' = (new ≡ old) × (v' ≡ v ++ refusal_text e)
+
+-- the answers still to come where a trace stands, or stands nowhere yet
+abbrev pub answers_on : List ℕ → Option Standing → List (List ℕ) → List ℕ
+answers_on records None ls = answers_before records ls
+answers_on records (Some s) ls = answers_from s ls

@@ -1,12 +1,14 @@
 -- A session of the program, by where its trace stands.
-use Rattle.std.specs.Prelude.{◌≡◌, ℕ, ◌^◌, List, replicate, None, Ok, Err, Result}
+use Rattle.std.specs.Prelude.{◌≡◌, ℕ, ◌^◌, List, replicate, None, Some, Ok, Err, Option, Result}
 use Rattle.terms.specs.declared.answer.Refusal.{Refusal}
 use Rattle.rules.specs.Setup.{fresh_state}
 use Rattle.below.specs.Book.{left}
 use Rattle.below.specs.Mailbox.{mailbox_radioed}
 use Rattle.trace.specs.Standing.{Standing, Equipment}
 use Rattle.trace.specs.declared.session.Equipped.{Equipped}
+use Rattle.trace.specs.Answers.{answers_on}
 use Rattle.trace.specs.declared.session.Session.{Session}
+use Rattle.trace.specs.declared.session.Trace.{Trace}
 
 -- a cell fresh from set-up and its gaps, as what was set up
 abbrev pub equipment_of : Equipped → Equipment
@@ -27,3 +29,12 @@ opened q records = record { setup = q.cell.setup; state = q.cell.state; period =
 
 abbrev pub standing_of : Session → Standing
 standing_of s = record { setup = s.cell.setup; state = s.cell.state; period = s.gaps.period; offset = s.gaps.offset; memory = s.memory; radio = mailbox_radioed s.radio; left = left s.book }
+
+-- where a trace stands with a session, if it has one
+abbrev pub standing_in : Option Session → Option Standing
+standing_in None = None
+standing_in (Some s) = Some (standing_of s)
+
+-- the answers to lines that come to a trace
+abbrev pub answers_to : Trace → List (List ℕ) → List ℕ
+answers_to t ls = answers_on t.records.now (standing_in t.session) ls

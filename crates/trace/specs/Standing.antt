@@ -15,8 +15,8 @@ use Rattle.cell.specs.Calls.{After, after_subframe, Filed, after_deposit, after_
 use Rattle.hexadecimal.specs.Hex.{decoded}
 use Rattle.frames.specs.declared.frame.SetupFrame.{SetupFrame}
 use Rattle.frames.specs.Frames.{Plain, setup, subframe, deposit, withdrawal, packet}
-use Rattle.trace.specs.declared.session.Answer.{Answer}
-use Rattle.trace.specs.declared.session.Answer.TheVariants.{Refused, Replied, Deposited, Withdrawn, Packet}
+use Rattle.trace.specs.declared.session.Accepted.{Accepted}
+use Rattle.trace.specs.declared.session.Accepted.TheVariants.{Replied, Deposited, Withdrawn, Packet}
 
 -- a cell that was set up, its pattern of measurement gaps, its packet memory, the mailbox, and what is left of the book
 pub record Standing : Type 0 where
@@ -30,7 +30,7 @@ pub record Standing : Type 0 where
 
 -- an answer, and where the trace stands after it
 pub record Answered : Type 0 where
-  pub answer : Answer
+  pub answer : Result Accepted Refusal
   pub standing : Standing
 
 -- what a set-up frame sets up: set-up, gap period, gap offset
@@ -70,11 +70,11 @@ at_first q records = record {
 }
 
 abbrev pub refused : Refusal → Standing → Answered
-refused e s = record { answer = Refused e; standing = s }
+refused e s = record { answer = Err e; standing = s }
 
-abbrev pub replied : Result Reply Refusal → Answer
-replied (Ok r) = Replied r
-replied (Err e) = Refused e
+abbrev pub replied : Result Reply Refusal → Result Accepted Refusal
+replied (Ok r) = Ok (Replied r)
+replied (Err e) = Err e
 
 abbrev pub after_answer : Standing → After (List ℕ) (Result Reply Refusal) → Answered
 after_answer s x = record {
@@ -88,11 +88,11 @@ called s a g =
     after_answer s (after_subframe left_offers (λ l n. left_used l) s.setup s.state s.memory s.radio s.left (gaps_of s.period s.offset s.state.clock) a g)
 
 -- a deposit or withdrawal frame: what it answers where it is accepted
-abbrev pub filed : Answer → Result (Unit {0}) Refusal → Answer
-filed a (Ok u) = a
-filed a (Err e) = Refused e
+abbrev pub filed : Accepted → Result (Unit {0}) Refusal → Result Accepted Refusal
+filed a (Ok u) = Ok a
+filed a (Err e) = Err e
 
-abbrev pub after_filing : Standing → Answer → Filed → Answered
+abbrev pub after_filing : Standing → Accepted → Filed → Answered
 after_filing s a x = record {
   answer = filed a x.answer;
   standing = record { setup = s.setup; state = x.state; period = s.period; offset = s.offset; memory = x.memory; radio = s.radio; left = s.left };
@@ -105,4 +105,4 @@ answered s (Ok (setup f)) = refused NotFrame s
 answered s (Ok (subframe a g)) = called s a g
 answered s (Ok (deposit d)) = after_filing s Deposited (after_deposit s.state s.memory (decoded d))
 answered s (Ok withdrawal) = after_filing s Withdrawn (after_withdrawal s.state s.memory)
-answered s (Ok (packet d)) = record { answer = Packet; standing = s }
+answered s (Ok (packet d)) = record { answer = Ok Packet; standing = s }

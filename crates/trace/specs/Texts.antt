@@ -1,5 +1,5 @@
 -- The text of an answer: each line is bytes in hexadecimal and a line feed.
-use Rattle.std.specs.Prelude.{ℕ, cond, List, [], ◌∷◌, ◌++◌, Some, None, Option}
+use Rattle.std.specs.Prelude.{ℕ, cond, List, [], ◌∷◌, ◌++◌, Some, None, Ok, Err, Option, Result}
 use Rattle.terms.specs.Numbers.{outcome_number, refusal_number}
 use Rattle.terms.specs.Sendings.{Sending}
 use Rattle.terms.specs.declared.answer.Outcome.{Outcome}
@@ -8,8 +8,8 @@ use Rattle.terms.specs.declared.answer.Refusal.{Refusal}
 use Rattle.terms.specs.declared.answer.Reply.{Reply}
 use Rattle.slot.specs.Slots.{heading}
 use Rattle.hexadecimal.specs.Hex.{encoded}
-use Rattle.trace.specs.declared.session.Answer.{Answer}
-use Rattle.trace.specs.declared.session.Answer.TheVariants.{Refused, Replied, Deposited, Withdrawn, Packet}
+use Rattle.trace.specs.declared.session.Accepted.{Accepted}
+use Rattle.trace.specs.declared.session.Accepted.TheVariants.{Replied, Deposited, Withdrawn, Packet}
 
 abbrev pub line_text : List ℕ → List ℕ
 line_text b = encoded b ++ 10 ∷ []
@@ -46,9 +46,9 @@ abbrev pub setup_text : List ℕ
 setup_text = line_text (1 ∷ [])
 
 -- an answer, with the latest instruction that the radio took
-abbrev pub answer_text : Answer → Option Sending → List ℕ
-answer_text (Refused e) x = refusal_text e
-answer_text (Replied r) x = reply_text r x
-answer_text Deposited x = line_text (3 ∷ [])
-answer_text Withdrawn x = line_text (4 ∷ [])
-answer_text Packet x = line_text (5 ∷ [])
+abbrev pub answer_text : Result Accepted Refusal → Option Sending → List ℕ
+answer_text (Ok (Replied r)) x = reply_text r x
+answer_text (Ok Deposited) x = line_text (3 ∷ [])
+answer_text (Ok Withdrawn) x = line_text (4 ∷ [])
+answer_text (Ok Packet) x = line_text (5 ∷ [])
+answer_text (Err e) x = refusal_text e

@@ -1,12 +1,8 @@
 // The answer to a trace.
-ghost use Rattle.std.specs.Prelude.{◌≡◌, ◌++◌, take, IfOk, OnOk};
-ghost use Rattle.frames.specs.Lines.{lines_of};
-ghost use Rattle.trace.specs.Answers.{answers_from, answers};
-ghost use Rattle.trace.specs.Sessions.{standing_of};
+ghost use Rattle.std.specs.Prelude.{◌≡◌, take, IfOk};
+ghost use Rattle.trace.specs.Answers.{answers};
 
-use crate::session::Session;
-use crate::session::line::equip;
-use crate::text::{refusal_onto, setup_onto};
+use crate::session::Trace;
 use frames::book::book;
 use frames::lines::Lines;
 use std::alloc::{AllocError, Global};
@@ -21,42 +17,18 @@ pub fn answer(heap: Global, input: &[u8]) -> Result<Vec<u8>, AllocError>
     answer_all(heap, &input[0..input.len().min(LONGEST_TRACE)])
 }
 
-// Answers lines until one sets up a cell, and then the others.
+// The text of the answers to a whole text.
 fn answer_all(heap: Global, input: &[u8]) -> Result<Vec<u8>, AllocError>
     ensures { IfOk result (λ v. v.items ≡ answers input.now) }
 {
-    let records = book(heap, input)?;
+    let book = book(heap, input)?;
+    let mut trace = Trace {
+        records: book.as_slice(),
+        session: None,
+    };
     let mut out = Vec::new(heap);
-    let mut lines = Lines::new(input);
-    while let Some(line) = lines.next() {
-        match equip(line) {
-            Ok(equipped) => {
-                setup_onto(&mut out)?;
-                run(
-                    heap,
-                    Session::new(equipped, records.as_slice()),
-                    lines,
-                    &mut out,
-                )?;
-                return Ok(out);
-            }
-            Err(refusal) => refusal_onto(&mut out, refusal)?,
-        }
+    for line in Lines::new(input) {
+        trace.answer_line(heap, line, &mut out)?;
     }
     Ok(out)
-}
-
-// Answers the lines after the set-up.
-fn run(
-    heap: Global,
-    mut session: Session<'_>,
-    mut lines: Lines<'_>,
-    out: &mut Vec<u8>,
-) -> Result<(), AllocError>
-    ensures { OnOk result (out.new.items ≡ out.old.items ++ answers_from (standing_of session.entry) (lines_of lines.entry.rest.now)) }
-{
-    while let Some(line) = lines.next() {
-        session.answer_line(heap, line, out)?;
-    }
-    Ok(())
 }

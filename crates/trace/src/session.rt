@@ -1,4 +1,4 @@
-// A trace under way.
+// What a trace works on.
 use below::book::Book;
 use below::mailbox::Mailbox;
 use below::pattern::Pattern;
@@ -8,15 +8,17 @@ use terms::answer::{Refusal, Reply};
 
 pub(crate) mod line;
 
-// The answer to a line.
+// What an accepted line did.
 #[derive(Clone, Copy)]
-pub(crate) enum Answer {
-    Refused(Refusal),
+pub(crate) enum Accepted {
     Replied(Reply),
     Deposited,
     Withdrawn,
     Packet,
 }
+
+// The answer to a line.
+pub(crate) type Answer = Result<Accepted, Refusal>;
 
 // A cell fresh from set-up, and its measurement gaps.
 #[derive(Drop)]
@@ -33,4 +35,11 @@ pub(crate) struct Session<'a> {
     memory: [u8; PACKET_MEMORY],
     radio: Mailbox,
     book: Book<'a>,
+}
+
+// A trace under way: the records of its book, and its session once a set-up was accepted.
+#[derive(Drop)]
+pub(crate) struct Trace<'a> {
+    pub(crate) records: &'a [u8],
+    pub(crate) session: Option<Session<'a>>,
 }

@@ -1,15 +1,19 @@
 // The text of an answer.
-ghost use Rattle.std.specs.Prelude.{◌≡◌, ◌<◌, ◌≤◌, ◌++◌, length, OnOk};
+ghost use Rattle.std.specs.Prelude.{◌≡◌, ◌<◌, ◌++◌, OnOk};
 ghost use Rattle.terms.specs.Sendings.{sending_of, told_of};
 ghost use Rattle.slot.specs.Slots.{up_to_packet};
 ghost use Rattle.trace.specs.Texts.{reply_bytes, line_text, slot_text, reply_text, refusal_text, setup_text, answer_text};
 
-use crate::session::Answer;
+use crate::session::{Accepted, Answer};
+use frames::frame::Code;
 use hexadecimal::encode_onto;
 use slot::heading_of;
 use std::alloc::AllocError;
 use terms::answer::{Outcome, Refusal, Reply};
 use terms::instruction::Instruction;
+
+// What the line of a refusal begins with.
+const REFUSED: u8 = 255;
 
 // Appends a line of bytes.
 fn line_onto(out: &mut Vec<u8>, bytes: &[u8]) -> Result<(), AllocError>
@@ -20,12 +24,13 @@ fn line_onto(out: &mut Vec<u8>, bytes: &[u8]) -> Result<(), AllocError>
     Ok(())
 }
 
+// The line of a reply; no From, since neither an array nor a Reply is a type of this crate.
 fn bytes_of_reply(reply: Reply) -> [u8; 5]
     ensures { result ≡ reply_bytes reply }
 {
     [
-        2,
-        reply.outcome.number(),
+        Code::Subframe.into(),
+        reply.outcome.into(),
         reply.process,
         reply.version.0,
         u8::from(reply.given_up),
@@ -61,14 +66,14 @@ fn reply_onto(
 pub(crate) fn refusal_onto(out: &mut Vec<u8>, refusal: Refusal) -> Result<(), AllocError>
     ensures { OnOk result (out.new.items ≡ out.old.items ++ refusal_text refusal) }
 {
-    line_onto(out, &[255, refusal.number()])
+    line_onto(out, &[REFUSED, refusal.into()])
 }
 
 // Appends that a set-up was accepted.
 pub(crate) fn setup_onto(out: &mut Vec<u8>) -> Result<(), AllocError>
     ensures { OnOk result (out.new.items ≡ out.old.items ++ setup_text) }
 {
-    line_onto(out, &[1])
+    line_onto(out, &[Code::Setup.into()])
 }
 
 // Appends an answer; the latest instruction of the radio goes with a sending.
@@ -80,10 +85,10 @@ pub(crate) fn answer_onto(
     ensures { OnOk result (out.new.items ≡ out.old.items ++ answer_text answer (told_of latest.entry)) }
 {
     match answer {
-        Answer::Refused(refusal) => refusal_onto(out, refusal),
-        Answer::Replied(reply) => reply_onto(out, reply, latest),
-        Answer::Deposited => line_onto(out, &[3]),
-        Answer::Withdrawn => line_onto(out, &[4]),
-        Answer::Packet => line_onto(out, &[5]),
+        Ok(Accepted::Replied(reply)) => reply_onto(out, reply, latest),
+        Ok(Accepted::Deposited) => line_onto(out, &[Code::Deposit.into()]),
+        Ok(Accepted::Withdrawn) => line_onto(out, &[Code::Withdrawal.into()]),
+        Ok(Accepted::Packet) => line_onto(out, &[Code::Packet.into()]),
+        Err(refusal) => refusal_onto(out, refusal),
     }
 }

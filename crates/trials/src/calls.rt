@@ -1,4 +1,4 @@
-// Calls with values that no trace brings.
+// Calls with values that no trace brings. They give numbers and compare refusals by their numbers, since these are what callers are promised.
 ghost use Rattle.std.specs.Prelude.{None};
 
 use below::book::Book;
@@ -8,16 +8,16 @@ use cell::cell::Cell;
 use ports::gap_plan::GapPlan;
 use ports::radio::Radio;
 use ports::source::Source;
-use std::process::Abort;
 use std::test::Fail;
 use terms::answer::{Outcome, Refusal, Reply};
 use terms::grant::Grant;
 use terms::instruction::Instruction;
 use terms::process::Feedback;
+use terms::state::Tally;
 use terms::version::RedundancyVersion;
 
 // A new transmission of two bytes for the C-RNTI.
-const GRANT: Grant = Grant {
+pub(crate) const GRANT: Grant = Grant {
     kind: 0,
     ndi: 1,
     mcs: 5,
@@ -49,86 +49,84 @@ impl Radio for FullRadio {
     }
 }
 
-// The number of a refusal, or 0 where there was none.
-fn refused(answer: Result<Reply, Refusal>) -> u8 {
-    match answer {
-        Ok(_) => 0,
-        Err(refusal) => refusal.number(),
-    }
+// A cell with what stands below it: a book of one packet, and no gaps.
+#[derive(Drop)]
+struct Bench {
+    cell: Cell,
+    memory: [u8; 5805],
+    radio: Mailbox,
+    book: Book<'static>,
+    gaps: Pattern,
 }
 
-// Lets subframes pass in which nothing comes.
-fn pass(
-    rt: &impl Abort,
-    count: u8,
-    cell: &mut Cell,
-    memory: &mut [u8],
-    radio: &mut Mailbox,
-    book: &mut Book<'_>,
-    gaps: &Pattern,
-) {
-    for _ in 0..count {
-        assert!(rt; refused(cell.subframe(memory, radio, book, gaps, None, None)) == 0);
+impl Bench {
+    // A plain cell from its first subframe on.
+    fn new(start: u64) -> Result<Bench, Refusal> {
+        Ok(Bench {
+            cell: Cell::set_up(0, 3, 3, 0, start)?,
+            memory: [1; 5805],
+            radio: Mailbox::new(),
+            book: Book::new(&RECORD),
+            gaps: Pattern::new(0, 0)?,
+        })
+    }
+
+    // Three by name, and no function of memory and radio: it could not take the bench and a part of it.
+    fn subframe(&mut self, grant: Option<Grant>) -> Result<Reply, Refusal> {
+        self.cell.subframe(
+            &mut self.memory,
+            &mut self.radio,
+            &mut self.book,
+            &self.gaps,
+            None,
+            grant,
+        )
+    }
+
+    // A subframe over other packet memory.
+    fn subframe_in(&mut self, memory: &mut [u8], grant: Option<Grant>) -> Result<Reply, Refusal> {
+        self.cell.subframe(
+            memory,
+            &mut self.radio,
+            &mut self.book,
+            &self.gaps,
+            None,
+            grant,
+        )
+    }
+
+    // A subframe over a radio that has no room.
+    fn subframe_full(
+        &mut self,
+        answer: Option<Feedback>,
+        grant: Option<Grant>,
+    ) -> Result<Reply, Refusal> {
+        self.cell.subframe(
+            &mut self.memory,
+            &mut FullRadio,
+            &mut self.book,
+            &self.gaps,
+            answer,
+            grant,
+        )
     }
 }
 
 // A refused subframe leaves the clock, the radio and the book as they were.
 #[test]
 fn memory_and_radio(rt: HostRuntime) -> Result<(), Fail> {
-    let mut cell = Cell::set_up(0, 3, 3, 0, 0)?;
-    let gaps = Pattern::new(0, 0)?;
-    let mut radio = Mailbox::new();
-    let mut book = Book::new(&RECORD);
-    assert!(rt;
-        refused(cell.subframe(
-            &mut [0; 5804],
-            &mut radio,
-            &mut book,
-            &gaps,
-            None,
-            Some(GRANT),
-        )) == 5
-    );
-    assert!(rt;
-        refused(cell.subframe(
-            &mut [0; 5806],
-            &mut radio,
-            &mut book,
-            &gaps,
-            None,
-            Some(GRANT),
-        )) == 5
-    );
-    assert!(rt;
-        refused(cell.subframe(
-            &mut [0; 5805],
-            &mut FullRadio,
-            &mut book,
-            &gaps,
-            None,
-            Some(GRANT),
-        )) == 7
-    );
-    assert!(rt;
-        refused(cell.subframe(
-            &mut [0; 5805],
-            &mut FullRadio,
-            &mut book,
-            &gaps,
-            Some(Feedback::Ack),
-            None,
-        )) == 7
-    );
-    assert!(rt; radio.latest().is_none());
-    assert!(rt; cell.clock() == 0);
-    let reply = cell.subframe(
-        &mut [0; 5805],
-        &mut radio,
-        &mut book,
-        &gaps,
-        None,
-        Some(GRANT),
-    )?;
+    let mut bench = Bench::new(0)?;
+    let short = bench.subframe_in(&mut [0; 5804], Some(GRANT));
+    assert_eq!(rt; short.map_err(u8::from), Err(5));
+    let long = bench.subframe_in(&mut [0; 5806], Some(GRANT));
+    assert_eq!(rt; long.map_err(u8::from), Err(5));
+    let full = bench.subframe_full(None, Some(GRANT));
+    assert_eq!(rt; full.map_err(u8::from), Err(7));
+    let full = bench.subframe_full(Some(Feedback::Ack), None);
+    assert_eq!(rt; full.map_err(u8::from), Err(7));
+    assert!(rt; bench.radio.latest().is_none());
+    assert!(rt; bench.cell.clock() == 0);
+    let reply = bench.subframe(Some(GRANT))?;
     assert!(rt; reply.outcome == Outcome::Sent);
     Ok(())
 }
@@ -136,89 +134,68 @@ fn memory_and_radio(rt: HostRuntime) -> Result<(), Fail> {
 #[test]
 fn end_of_the_clock(rt: HostRuntime) -> Result<(), Fail> {
     assert!(rt; Cell::set_up(0, 3, 3, 0, 0x1_0000_0000_0000).is_err());
-    let mut cell = Cell::set_up(0, 3, 3, 0, 0xffff_ffff_ffff)?;
-    let gaps = Pattern::new(0, 0)?;
-    let mut memory = [0; 5805];
-    let mut radio = Mailbox::new();
-    let mut book = Book::new(&RECORD);
-    let reply = cell.subframe(&mut memory, &mut radio, &mut book, &gaps, None, Some(GRANT))?;
+    let mut bench = Bench::new(0xffff_ffff_ffff)?;
+    let reply = bench.subframe(Some(GRANT))?;
     assert!(rt; reply.outcome == Outcome::Sent && reply.process == 7);
-    assert!(rt; cell.clock() == 0x1_0000_0000_0000);
-    assert!(rt; refused(cell.subframe(&mut memory, &mut radio, &mut book, &gaps, None, None)) == 6);
-    assert!(rt; refused(cell.subframe(&mut [0; 1], &mut radio, &mut book, &gaps, None, None)) == 5);
+    assert!(rt; bench.cell.clock() == 0x1_0000_0000_0000);
+    assert_eq!(rt; bench.subframe(None).map_err(u8::from), Err(6));
+    assert_eq!(rt;
+        bench.subframe_in(&mut [0; 1], None).map_err(u8::from),
+        Err(5)
+    );
     Ok(())
 }
 
 // One packet is sent three times and given up, and the mailbox keeps the last sending.
 #[test]
 fn tally_and_latest(rt: HostRuntime) -> Result<(), Fail> {
-    let mut cell = Cell::set_up(0, 3, 3, 0, 0)?;
-    let gaps = Pattern::new(0, 0)?;
-    let mut memory = [0; 5805];
-    let mut radio = Mailbox::new();
-    let mut book = Book::new(&RECORD);
-    assert!(rt; cell.tally().packets == 0 && cell.tally().sendings == 0);
-    assert!(rt;
-        refused(cell.subframe(&mut memory, &mut radio, &mut book, &gaps, None, Some(GRANT))) == 0
+    let mut bench = Bench::new(0)?;
+    assert_eq!(rt;
+        bench.cell.tally(),
+        Tally {
+            packets: 0,
+            sendings: 0
+        }
     );
-    pass(
-        &rt,
-        24,
-        &mut cell,
-        &mut memory,
-        &mut radio,
-        &mut book,
-        &gaps,
+    assert!(rt; bench.subframe(Some(GRANT)).is_ok());
+    for _ in 0..24 {
+        assert!(rt; bench.subframe(None).is_ok());
+    }
+    assert_eq!(rt;
+        bench.cell.tally(),
+        Tally {
+            packets: 1,
+            sendings: 3
+        }
     );
-    assert!(rt; cell.tally().packets == 1 && cell.tally().sendings == 3);
-    let Some(latest) = radio.latest() else {
-        return Err(Fail::new("nothing was sent"));
+    let last = Instruction {
+        subframe: 16,
+        process: 0,
+        version: RedundancyVersion(3),
+        mcs: 5,
+        resource: 7,
+        packet: &[0xa1, 0xb2],
     };
-    assert!(rt; latest.subframe == 16 && latest.process == 0 && latest.version.0 == 3);
-    assert!(rt;
-        latest.mcs == 5 && latest.resource == 7 && latest.packet == [0xa1, 0xb2].as_slice()
-    );
+    assert_eq!(rt; bench.radio.latest(), Some(last));
     Ok(())
 }
 
 // The largest packet is padded from two bytes; a larger one is refused.
 #[test]
 fn largest_packet(rt: HostRuntime) -> Result<(), Fail> {
-    let mut cell = Cell::set_up(0, 3, 3, 0, 7)?;
-    let gaps = Pattern::new(0, 0)?;
-    let mut memory = [1; 5805];
-    let mut radio = Mailbox::new();
-    let mut book = Book::new(&RECORD);
+    let mut bench = Bench::new(7)?;
     let largest = Grant { size: 645, ..GRANT };
     let larger = Grant { size: 646, ..GRANT };
-    assert!(rt;
-        refused(cell.subframe(
-            &mut memory,
-            &mut radio,
-            &mut book,
-            &gaps,
-            None,
-            Some(larger),
-        )) == 9
-    );
-    assert!(rt;
-        refused(cell.subframe(
-            &mut memory,
-            &mut radio,
-            &mut book,
-            &gaps,
-            None,
-            Some(largest),
-        )) == 0
-    );
-    let Some(latest) = radio.latest() else {
+    assert_eq!(rt; bench.subframe(Some(larger)).map_err(u8::from), Err(9));
+    assert!(rt; bench.subframe(Some(largest)).is_ok());
+    let Some(latest) = bench.radio.latest() else {
         return Err(Fail::new("nothing was sent"));
     };
     let mut padded = [0; 645];
     padded[0] = 0xa1;
     padded[1] = 0xb2;
     assert!(rt; latest.process == 7 && latest.packet == padded.as_slice());
-    assert!(rt; memory[4514] == 1 && memory[5160] == 1);
+    assert!(rt; bench.memory[4514] == 1 && bench.memory[5160] == 1);
     Ok(())
 }
 
@@ -235,17 +212,12 @@ fn instruction(packet: &[u8]) -> Instruction<'_> {
 
 // A mailbox takes packets of 1 to 645 bytes alone.
 #[test]
-fn mailbox(rt: HostRuntime) -> Result<(), Fail> {
+fn mailbox(rt: HostRuntime) {
     let mut radio = Mailbox::new();
     assert!(rt; radio.ready() && !radio.take(instruction(&[])));
     assert!(rt; !radio.take(instruction(&[6; 646])) && radio.latest().is_none());
     assert!(rt; radio.take(instruction(&[6; 645])));
-    let Some(latest) = radio.latest() else {
-        return Err(Fail::new("nothing was taken"));
-    };
-    assert!(rt; latest.subframe == 1 && latest.process == 2 && latest.version.0 == 3);
-    assert!(rt; latest.mcs == 4 && latest.resource == 5 && latest.packet == [6; 645].as_slice());
-    Ok(())
+    assert_eq!(rt; radio.latest(), Some(instruction(&[6; 645])));
 }
 
 // The second record is cut, so the book ends after the first.
@@ -273,30 +245,31 @@ fn pattern(rt: HostRuntime) -> Result<(), Fail> {
     Ok(())
 }
 
-// The number of the refusal of a deposit or a withdrawal, or 0.
-fn denied(answer: Result<(), Refusal>) -> u8 {
-    match answer {
-        Ok(()) => 0,
-        Err(refusal) => refusal.number(),
-    }
-}
-
 // Msg3 lies in the last 645 bytes of packet memory, and a withdrawal leaves its bytes there.
 #[test]
 fn msg3(rt: HostRuntime) -> Result<(), Fail> {
     let mut cell = Cell::set_up(1, 3, 3, 0, 0)?;
     let mut memory = [1; 5805];
-    assert!(rt; denied(cell.deposit(&mut memory[..5804], &[])) == 5);
-    assert!(rt; denied(cell.deposit(&mut [0; 5806], &[7])) == 5);
-    assert!(rt; denied(cell.deposit(&mut memory, &[])) == 13);
-    assert!(rt; denied(cell.deposit(&mut memory, &[7; 646])) == 13);
-    assert!(rt; denied(cell.withdraw()) == 15);
-    assert!(rt; denied(cell.deposit(&mut memory, &[7; 645])) == 0);
-    assert!(rt; denied(cell.deposit(&mut memory, &[8])) == 14);
+    assert_eq!(rt;
+        cell.deposit(&mut memory[..5804], &[]).map_err(u8::from),
+        Err(5)
+    );
+    assert_eq!(rt;
+        cell.deposit(&mut [0; 5806], &[7]).map_err(u8::from),
+        Err(5)
+    );
+    assert_eq!(rt; cell.deposit(&mut memory, &[]).map_err(u8::from), Err(13));
+    assert_eq!(rt;
+        cell.deposit(&mut memory, &[7; 646]).map_err(u8::from),
+        Err(13)
+    );
+    assert_eq!(rt; cell.withdraw().map_err(u8::from), Err(15));
+    assert!(rt; cell.deposit(&mut memory, &[7; 645]).is_ok());
+    assert_eq!(rt; cell.deposit(&mut memory, &[8]).map_err(u8::from), Err(14));
     assert!(rt; memory[5159] == 1 && memory[5160] == 7 && memory[5804] == 7);
-    assert!(rt; denied(cell.withdraw()) == 0);
-    assert!(rt; denied(cell.withdraw()) == 15);
-    assert!(rt; denied(cell.deposit(&mut memory, &[8])) == 0);
+    assert!(rt; cell.withdraw().is_ok());
+    assert_eq!(rt; cell.withdraw().map_err(u8::from), Err(15));
+    assert!(rt; cell.deposit(&mut memory, &[8]).is_ok());
     assert!(rt; memory[5160] == 8 && memory[5161] == 7 && cell.clock() == 0);
     Ok(())
 }

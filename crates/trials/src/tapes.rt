@@ -4,6 +4,7 @@ ghost use Rattle.terms.specs.Sendings.{sending_of};
 ghost use Rattle.ports.specs.Radio.{accepts, after_take};
 ghost use Rattle.below.specs.Tape.{bytes_radioed};
 
+use crate::calls::GRANT;
 use below::book::Book;
 use below::pattern::Pattern;
 use below::tape::Tape;
@@ -11,7 +12,6 @@ use cell::cell::Cell;
 use ports::radio::Radio;
 use std::test::Fail;
 use terms::answer::Outcome;
-use terms::grant::Grant;
 use terms::instruction::Instruction;
 use terms::version::RedundancyVersion;
 
@@ -70,12 +70,9 @@ const FILLED: [Filled; 5] = [
 ];
 
 fn is_filled(bytes: &[u8], filled: Filled) -> bool {
-    for (k, byte) in bytes.iter().enumerate() {
-        if filled.from <= k && k < filled.to && *byte != filled.byte {
-            return false;
-        }
-    }
-    true
+    bytes
+        .get(filled.from..filled.to)
+        .is_some_and(|part| part.iter().all(|byte| *byte == filled.byte))
 }
 
 #[test]
@@ -90,12 +87,16 @@ fn two_slots_and_a_bit(rt: HostRuntime) -> Result<(), Fail> {
     assert!(rt; tape.take(instruction(9, &[0xb2; 645])));
     assert!(rt; tape.count() == 2 && !tape.ready());
     assert!(rt; !tape.take(instruction(10, &[0xc3])) && tape.count() == 2);
-    let Some(first) = tape.instruction(0) else {
-        return Err(Fail::new("nothing stands in slot 0"));
+    let first = Instruction {
+        subframe: 0x0102_0304_0506_0708,
+        process: 3,
+        version: RedundancyVersion(2),
+        mcs: 28,
+        resource: 0x1234,
+        packet: &[0xa1; 2],
     };
-    assert!(rt; first.subframe == 0x0102_0304_0506_0708 && first.process == 3);
-    assert!(rt; first.version.0 == 2 && first.mcs == 28 && first.resource == 0x1234);
-    assert!(rt; first.packet == [0xa1; 2].as_slice() && tape.instruction(2).is_none());
+    assert_eq!(rt; tape.instruction(0), Some(first));
+    assert!(rt; tape.instruction(2).is_none());
     assert!(rt; bytes[0..16] == [1, 2, 3, 4, 5, 6, 7, 8, 3, 2, 28, 0, 0x12, 0x34, 0, 2]);
     assert!(rt; bytes[668..677] == [9, 3, 2, 28, 0, 0x12, 0x34, 2, 0x85]);
     for filled in FILLED {
@@ -139,18 +140,8 @@ fn cell_over_tape(rt: HostRuntime) -> Result<(), Fail> {
     let mut book = Book::new(&[0, 2, 0xa1, 0xb2]);
     let mut memory = [0; 5805];
     let mut bytes = [OLD; 662];
-    let grant = Grant {
-        kind: 0,
-        ndi: 1,
-        mcs: 5,
-        version: 0,
-        process: 0,
-        repetitions: 1,
-        resource: 7,
-        size: 2,
-    };
     let mut tape = Tape::new(&mut bytes);
-    let reply = cell.subframe(&mut memory, &mut tape, &mut book, &gaps, None, Some(grant))?;
+    let reply = cell.subframe(&mut memory, &mut tape, &mut book, &gaps, None, Some(GRANT))?;
     assert!(rt; reply.outcome == Outcome::Sent);
     assert!(rt;
         bytes[0..19]

@@ -1,8 +1,7 @@
-// Frames, and the lines that they are written as.
+// Frames, and the lines that they are written as. Refusals are compared by their numbers, which callers are promised.
 use frames::frame::{Frame, SetupFrame};
 use frames::write::write;
 use std::process::Abort;
-use terms::answer::Refusal;
 use terms::grant::Grant;
 use terms::process::Feedback;
 
@@ -38,38 +37,32 @@ const GRANT: Grant = Grant {
     size: 0x0b0c,
 };
 
-// What a call of write answered: a length, or 10,000 and the number of the refusal.
-fn told(answer: Result<usize, Refusal>) -> usize {
-    match answer {
-        Ok(length) => length,
-        Err(refusal) => 10000 + usize::from(refusal.number()),
-    }
-}
-
 // A frame is written as a text, and what stands behind it stays. A stretch that is shorter by one is refused, and stays.
 fn writes(rt: &impl Abort, frame: Frame<'_>, text: &'static str) {
     let line = text.as_bytes();
     assert!(rt; 1 <= line.len() && line.len() < 40);
     let mut stretch = [b'x'; 40];
-    assert!(rt; told(write(&mut stretch, frame)) == line.len(), "{}", text);
+    assert_eq!(rt; write(&mut stretch, frame), Ok(line.len()), "{}", text);
     assert!(rt;
         &stretch[..line.len()] == line && &stretch[line.len()..] == &[b'x'; 40][line.len()..],
         "{}",
         text
     );
     let mut short = [b'x'; 40];
-    assert!(rt;
-        told(write(&mut short[..line.len() - 1], frame)) == 10017,
-        "{}",
-        text
-    );
+    let refused = write(&mut short[..line.len() - 1], frame).map_err(u8::from);
+    assert_eq!(rt; refused, Err(17), "{}", text);
     assert!(rt; short == [b'x'; 40], "{}", text);
 }
 
 // A frame that no line reads as is refused, and the stretch stays.
 fn refuses(rt: &impl Abort, frame: Frame<'_>, name: &'static str) {
     let mut stretch = [b'x'; 1300];
-    assert!(rt; told(write(&mut stretch, frame)) == 10017, "{}", name);
+    assert_eq!(rt;
+        write(&mut stretch, frame).map_err(u8::from),
+        Err(17),
+        "{}",
+        name
+    );
     assert!(rt; stretch == [b'x'; 1300], "{}", name);
 }
 
@@ -115,9 +108,10 @@ fn refused(rt: HostRuntime) {
 fn largest_packet_line(rt: HostRuntime) {
     let packet = Frame::Packet(&[b'0'; 1290]);
     let mut short = [b'x'; 1291];
-    assert!(rt; told(write(&mut short, packet)) == 10017 && short == [b'x'; 1291]);
+    assert_eq!(rt; write(&mut short, packet).map_err(u8::from), Err(17));
+    assert!(rt; short == [b'x'; 1291]);
     let mut stretch = [b'x'; 1292];
-    assert!(rt; told(write(&mut stretch, packet)) == 1292);
+    assert_eq!(rt; write(&mut stretch, packet), Ok(1292));
     assert!(rt; stretch[0] == b'0' && stretch[1] == b'5' && stretch[1291] == b'0');
 }
 
@@ -125,6 +119,9 @@ fn largest_packet_line(rt: HostRuntime) {
 #[test]
 fn large_deposit_line(rt: HostRuntime) {
     let mut stretch = [b'x'; 1295];
-    assert!(rt; told(write(&mut stretch, Frame::Deposit(&[b'1'; 1292]))) == 1294);
+    assert_eq!(rt;
+        write(&mut stretch, Frame::Deposit(&[b'1'; 1292])),
+        Ok(1294)
+    );
     assert!(rt; stretch[1] == b'3' && stretch[1293] == b'1' && stretch[1294] == b'x');
 }

@@ -14,15 +14,9 @@ impl Pattern {
     pub fn new(period: u8, offset: u8) -> Result<Pattern, Refusal>
         ensures { pattern_parts result ≡ pattern_set_up period offset }
     {
-        let allowed = match period {
-            0 => offset == 0,
-            40 | 80 => offset < period,
-            _ => false,
-        };
-        if allowed {
-            Ok(Pattern { period, offset })
-        } else {
-            Err(Refusal::GapPattern)
+        match (period, offset) {
+            (0, 0) | (40, 0..40) | (80, 0..80) => Ok(Pattern { period, offset }),
+            _ => Err(Refusal::GapPattern),
         }
     }
 }
@@ -31,11 +25,8 @@ impl GapPlan for Pattern {
     ghost covered = { pattern_covers };
 
     fn covers(&self, subframe: u64) -> bool {
-        if self.period == 0 {
-            return false;
-        }
-        let period = self.period as u128;
-        let offset = self.offset as u128;
-        (subframe as u128 + period - offset) % period < GAP
+        let period = u128::from(self.period);
+        let offset = u128::from(self.offset);
+        period != 0 && (u128::from(subframe) + period - offset) % period < GAP
     }
 }

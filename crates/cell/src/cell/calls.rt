@@ -1,27 +1,26 @@
-ghost use Rattle.std.specs.Prelude.{◌≡◌, ℕ, ◌^◌, ◌<◌, true, List, length};
-ghost use Rattle.ports.specs.Radio.{has_room};
-ghost use Rattle.ports.specs.Source.{FitsAsked};
+ghost use Rattle.std.specs.Prelude.{◌≡◌, ℕ, List};
 ghost use Rattle.rules.specs.Setup.{set_up};
-ghost use Rattle.rules.specs.Subframe.{process_done};
-ghost use Rattle.rules.specs.Invariant.{Sound, SizedGrant, NamedBelow};
 ghost use Rattle.runs.specs.Runs.{deposit_call, withdrawal_call};
 ghost use Rattle.runs.specs.Promise.{KeepsPromise};
-ghost use Rattle.cell.specs.Calls.{after_done, after_subframe, after_deposit, after_withdrawal};
+ghost use Rattle.cell.specs.Calls.{after_subframe, after_deposit, after_withdrawal};
 ghost use Rattle.cell.specs.Promises.{world, brought_over, subframe_over, latest_after, ByTheStandard};
 ghost use Rattle.cell.specs.Cells.{parts, with_fresh_state};
 
+use crate::PACKET_MEMORY;
 use crate::cell::Cell;
-use crate::entity::{decide, fetch, identify};
-use crate::memory::{MSG3, write_packet};
+use crate::entity::identify;
 use crate::process::IDLE;
-use crate::questions::{ask, ask_of_deposit, ask_of_setup, ask_of_withdrawal};
-use crate::reception::{force, refer, store};
-use crate::work::{begin, conclude, finish, rerun, take_answer};
+use crate::questions::{ask_of_deposit, ask_of_setup, ask_of_withdrawal};
+use crate::reception::{force, store};
+use crate::roomy::Roomy;
+use crate::stretch::Stretch;
+use crate::tti::Tti;
+use crate::work::take_answer;
 use ports::gap_plan::GapPlan;
 use ports::radio::Radio;
 use ports::source::Source;
 use terms::answer::{Outcome, Refusal, Reply};
-use terms::grant::{Grant, GrantInForce};
+use terms::grant::Grant;
 use terms::process::Feedback;
 use terms::setup::{CellKind, Setup};
 use terms::state::{State, Tally};
@@ -35,39 +34,8 @@ const NO_PROCESS: Reply = Reply {
     given_up: false,
 };
 
-// The subframe of process `k`, once the answer was heard and the grant in force is known.
-fn turn<R: Radio, S: Source>(
-    setup: Setup,
-    state: &mut State,
-    memory: &mut [u8],
-    radio: &mut R,
-    source: &mut S,
-    gap: bool,
-    g: Option<GrantInForce>,
-    k: u8,
-) -> Reply
-    requires sound { Sound setup state.old }
-    requires sized { SizedGrant g }
-    requires named { NamedBelow setup.kind g }
-    requires within { (length memory.old ≡ 5805) × ((k < 8) × (state.old.clock < 2 ^ 48)) }
-    requires room { has_room (R.radioed radio.old) ≡ true }
-    ensures whole { record { answer = result; state = state.new; memory = memory.new; radio = R.radioed radio.new; source = source.new } ≡ after_done S.offers S.used (R.radioed radio.old) source.old (process_done setup state.old memory.old gap (S.offers source.old) g k).reply (process_done setup state.old memory.old gap (S.offers source.old) g k) }
-    ensures sound { Sound setup state.new }
-    ensures fits { FitsAsked (S.offers source.old) (process_done setup state.old memory.old gap (S.offers source.old) g k).asked }
-    ensures lender { R.lender radio.new ≡ R.lender radio.old }
-{
-    let clock = state.clock;
-    let p = refer(g, fetch(&state.processes, k));
-    let decision = decide(setup, g, p);
-    let work = begin(setup, memory, source, k, state.msg3, p, decision);
-    let conclusion = conclude(setup, clock, memory, radio, k, gap, work);
-    let repetition = rerun(setup.kind, clock, g, work, state.repetition);
-    finish(state, k, repetition, conclusion);
-    conclusion.reply
-}
-
 impl Cell {
-    // Sets a cell up, or refuses by the first question that is answered no.
+    // Sets a cell up, or refuses by the first question that is answered no. It takes every number for the kind, since a CellKind would ask more of callers.
     pub fn set_up(
         kind: u8,
         max_harq_tx: u8,
@@ -77,11 +45,8 @@ impl Cell {
     ) -> Result<Cell, Refusal>
         ensures { parts result ≡ with_fresh_state (set_up kind max_harq_tx max_harq_msg3_tx interval start) }
     {
-        let Some(kind) = CellKind::from_number(kind) else {
-            return Err(Refusal::CellKind);
-        };
         let setup = Setup {
-            kind,
+            kind: CellKind::try_from(kind)?,
             max_harq_tx,
             max_harq_msg3_tx,
             interval,
@@ -103,6 +68,7 @@ impl Cell {
     }
 
     // The subframe that comes next: an answer and a grant, if they came, over the radio, the source and the gap plan that stand below.
+    // Answer and grant come apart here and below, since one may come without the other.
     pub fn subframe<R: Radio, S: Source, G: GapPlan>(
         &mut self,
         memory: &mut [u8],
@@ -119,34 +85,27 @@ impl Cell {
         ensures standard { ByTheStandard self.old.setup (world self.old.state memory.old (R.radioed radio.old).count) (brought_over answer grant (G.covered gaps.now) (S.offers source.old) (R.radioed radio.old)) result (R.radioed radio.old) (R.radioed radio.new) }
         ensures lender { R.lender radio.new ≡ R.lender radio.old }
     {
+        let memory = memory
+            .as_mut_array::<PACKET_MEMORY>()
+            .ok_or(Refusal::PacketMemory)?;
         let clock = self.state.clock;
         let gap = gaps.covers(clock);
-        ask(
-            self.setup,
-            &self.state,
-            memory.len(),
-            radio.ready(),
-            gap,
-            answer,
-            grant,
-        )?;
+        self.ask(radio.ready(), gap, answer, grant)?;
         take_answer(self.setup, &mut self.state, gap, answer);
         let g = force(self.setup, clock, self.state.configured, grant);
         self.state.configured = store(clock, self.state.configured, grant);
-        let Some(k) = identify(self.setup.kind, clock, g, self.state.repetition) else {
+        let Some(process) = identify(self.setup.kind, clock, g, self.state.repetition) else {
             self.state.clock += 1;
             return Ok(NO_PROCESS);
         };
-        Ok(turn(
-            self.setup,
-            &mut self.state,
-            memory,
-            radio,
-            source,
+        let tti = Tti {
+            setup: self.setup,
+            clock,
             gap,
-            g,
-            k,
-        ))
+            process,
+        };
+        let roomy = Roomy { radio };
+        Ok(tti.turn(&mut self.state, memory, roomy, source, g))
     }
 
     // Puts a packet into the Msg3 buffer. Until a withdrawal each Random Access Response grant sends it. The clock stays.
@@ -155,8 +114,11 @@ impl Cell {
         ensures setup { self.new.setup ≡ self.old.setup }
         ensures promise { (count : ℕ) → KeepsPromise self.old.setup (world self.old.state memory.old count) (deposit_call packet.now) (world self.new.state memory.new count) }
     {
-        ask_of_deposit(memory.len(), packet.len(), self.state.msg3)?;
-        write_packet(memory, MSG3, packet);
+        let memory = memory
+            .as_mut_array::<PACKET_MEMORY>()
+            .ok_or(Refusal::PacketMemory)?;
+        ask_of_deposit(packet.len(), self.state.msg3)?;
+        Stretch::MSG3.write(memory, packet);
         self.state.msg3 = Some(packet.len() as u16);
         Ok(())
     }

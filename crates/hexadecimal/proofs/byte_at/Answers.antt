@@ -1,11 +1,8 @@
-use Rattle.std.proofs.Common.{sym, arith, rules}
-use Rattle.std.proofs.lemmas.List.{get_or_past}
+use Rattle.std.proofs.Common.{ap, ◌∙◌}
+use Rattle.std.specs.Option.{unwrap_or}
+use Rattle.std.proofs.lemmas.Option.{unwrap_or-slice_get}
 use Rattle.hexadecimal.specs.Hex.{decoded}
-use Rattle.hexadecimal.proofs.Coding.{get_or_decoded}
 use Rattle.hexadecimal.proofs.byte_at.Goals as goal
 
-pub returns-then-k-byte_len : goal.returns-then-k-byte_len
-returns-then-k-byte_len c = let e = get_or_decoded c.args.text.now c.args.k (omega arith) in search rules
-
-pub returns-else-k-byte_len : goal.returns-else-k-byte_len
-returns-else-k-byte_len c = sym (get_or_past (decoded c.args.text.now) c.args.k 0 (omega arith))
+pub returns : goal.returns
+returns c = c.unwrap_or.ensures ∙ ap (λ o. unwrap_or o 0) c.get_byte.ensures ∙ unwrap_or-slice_get (decoded c.args.text.now) c.args.k 0

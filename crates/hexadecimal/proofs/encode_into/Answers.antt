@@ -1,4 +1,4 @@
-use Rattle.std.proofs.Common.{◌≡◌, ◌*◌, true, leb, length, ◌∙◌, arith, rules}
+use Rattle.std.proofs.Common.{◌≡◌, ◌*◌, true, leb, length, arith, rules}
 use Rattle.hexadecimal.specs.Hex.{encoded}
 use Rattle.std.proofs.lemmas.List.{take_all}
 use Rattle.std.proofs.lemmas.Bool.{leb-true}
@@ -12,7 +12,8 @@ pub loop-k-preserved : goal.loop-k-preserved
 loop-k-preserved c =
     let r : leb (2 * length c.args.bytes.now) (length c.args.stretch.now) ≡ true = search rules in
     let l = leb-true (2 * length c.args.bytes.now) (length c.args.stretch.now) r in
-    c.put_digits.ensures ∙ lay_digits c.args.bytes.now c.args.stretch.now c.loop-k.stretch c.loop-k.k (omega arith) (omega arith) c.loop-k.invariant
+    let e = lay_digits c.args.bytes.now c.args.stretch.now c.loop-k.stretch c.digits_of.result c.loop-k.k (omega arith) (omega arith) c.loop-k.invariant (search rules) in
+    search rules
 
 pub returns : goal.returns
 returns c =

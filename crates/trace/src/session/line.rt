@@ -1,15 +1,15 @@
 // What a line of a trace does.
-ghost use Rattle.std.specs.Prelude.{◌≡◌, ◌++◌, replicate, IfOk, OnOk};
+ghost use Rattle.std.specs.Prelude.{◌≡◌, ℕ, List, ◌∷◌, ◌++◌, IfOk, OnOk};
 ghost use Rattle.cell.specs.Calls.{after_deposit, after_withdrawal};
 ghost use Rattle.hexadecimal.specs.Hex.{decoded};
 ghost use Rattle.frames.specs.Frames.{reads};
-ghost use Rattle.trace.specs.Standing.{admitted, equipped, replied, called, filed, after_filing, answered};
-ghost use Rattle.trace.specs.Answers.{text_of};
-ghost use Rattle.trace.specs.declared.session.Answer.TheVariants.{Deposited, Withdrawn};
-ghost use Rattle.trace.specs.Sessions.{equipment_in, FreshIn, opened, standing_of};
+ghost use Rattle.trace.specs.Standing.{admitted, equipped, called, after_filing, answered};
+ghost use Rattle.trace.specs.Answers.{text_of, Begun};
+ghost use Rattle.trace.specs.declared.session.Accepted.TheVariants.{Deposited, Withdrawn};
+ghost use Rattle.trace.specs.Sessions.{equipment_in, FreshIn, opened, standing_of, standing_in, answers_to};
 
-use crate::session::{Answer, Equipped, Session};
-use crate::text::answer_onto;
+use crate::session::{Accepted, Answer, Equipped, Session, Trace};
+use crate::text::{answer_onto, refusal_onto, setup_onto};
 use below::book::Book;
 use below::mailbox::Mailbox;
 use below::pattern::Pattern;
@@ -19,7 +19,7 @@ use frames::frame::{Frame, SetupFrame};
 use frames::read::read;
 use hexadecimal::decode_onto;
 use std::alloc::{AllocError, Global};
-use terms::answer::{Refusal, Reply};
+use terms::answer::Refusal;
 use terms::grant::Grant;
 use terms::process::Feedback;
 
@@ -40,52 +40,26 @@ fn admit(f: SetupFrame) -> Result<Equipped, Refusal>
 }
 
 // What a line sets up before anything is set up.
-pub(crate) fn equip(line: &[u8]) -> Result<Equipped, Refusal>
+fn equip(line: &[u8]) -> Result<Equipped, Refusal>
     ensures equipment { equipment_in result ≡ equipped (reads line.now) }
     ensures fresh { FreshIn result }
 {
-    match read(line) {
-        Ok(Frame::Setup(f)) => admit(f),
-        Ok(_) => Err(Refusal::NotFrame),
-        Err(refusal) => Err(refusal),
-    }
-}
-
-fn blank_memory() -> [u8; PACKET_MEMORY]
-    ensures { result ≡ replicate 5805 0 }
-{
-    [0; PACKET_MEMORY]
-}
-
-fn reply_or_refusal(res: Result<Reply, Refusal>) -> Answer
-    ensures { result ≡ replied res }
-{
-    match res {
-        Ok(reply) => Answer::Replied(reply),
-        Err(refusal) => Answer::Refused(refusal),
-    }
-}
-
-// The answer to a deposit or a withdrawal: the one given, where it was accepted.
-fn done_or_refusal(answer: Answer, res: Result<(), Refusal>) -> Answer
-    ensures { result ≡ filed answer res }
-{
-    match res {
-        Ok(()) => answer,
-        Err(refusal) => Answer::Refused(refusal),
+    match read(line)? {
+        Frame::Setup(f) => admit(f),
+        _ => Err(Refusal::NotFrame),
     }
 }
 
 impl<'a> Session<'a> {
     // After an accepted set-up.
-    pub(crate) fn new(equipped: Equipped, records: &'a [u8]) -> Session<'a>
+    fn new(equipped: Equipped, records: &'a [u8]) -> Session<'a>
         ensures { standing_of result ≡ opened equipped records.now }
     {
         let Equipped { cell, gaps } = equipped;
         Session {
             cell,
             gaps,
-            memory: blank_memory(),
+            memory: [0; PACKET_MEMORY],
             radio: Mailbox::new(),
             book: Book::new(records),
         }
@@ -94,15 +68,16 @@ impl<'a> Session<'a> {
     fn subframe(&mut self, answer: Option<Feedback>, grant: Option<Grant>) -> Answer
         ensures { record { answer = result; standing = standing_of self.new } ≡ called (standing_of self.old) answer grant }
     {
-        let result = self.cell.subframe(
-            &mut self.memory,
-            &mut self.radio,
-            &mut self.book,
-            &self.gaps,
-            answer,
-            grant,
-        );
-        reply_or_refusal(result)
+        self.cell
+            .subframe(
+                &mut self.memory,
+                &mut self.radio,
+                &mut self.book,
+                &self.gaps,
+                answer,
+                grant,
+            )
+            .map(Accepted::Replied)
     }
 
     // A packet for the Msg3 buffer, by its digits.
@@ -111,18 +86,17 @@ impl<'a> Session<'a> {
     {
         let mut packet = Vec::new(heap);
         decode_onto(&mut packet, digits)?;
-        let result = self.cell.deposit(&mut self.memory, packet.as_slice());
-        Ok(done_or_refusal(Answer::Deposited, result))
+        let done = self.cell.deposit(&mut self.memory, packet.as_slice());
+        Ok(done.map(|()| Accepted::Deposited))
     }
 
     fn withdraw(&mut self) -> Answer
         ensures { record { answer = result; standing = standing_of self.new } ≡ after_filing (standing_of self.old) Withdrawn (after_withdrawal (standing_of self.old).state (standing_of self.old).memory) }
     {
-        let result = self.cell.withdraw();
-        done_or_refusal(Answer::Withdrawn, result)
+        self.cell.withdraw().map(|()| Accepted::Withdrawn)
     }
 
-    // Works a line.
+    // Works a line. A refusal is an answer, and want of memory ends the trace: two errors, one inside the other.
     fn work(&mut self, heap: Global, line: &[u8]) -> Result<Answer, AllocError>
         ensures { IfOk result (λ v. record { answer = v; standing = standing_of self.new } ≡ answered (standing_of self.old) (reads line.now)) }
     {
@@ -130,14 +104,14 @@ impl<'a> Session<'a> {
             Ok(Frame::Subframe { answer, grant }) => Ok(self.subframe(answer, grant)),
             Ok(Frame::Deposit(digits)) => self.deposit(heap, digits),
             Ok(Frame::Withdrawal) => Ok(self.withdraw()),
-            Ok(Frame::Packet(_)) => Ok(Answer::Packet),
-            Ok(Frame::Setup(_)) => Ok(Answer::Refused(Refusal::NotFrame)),
-            Err(refusal) => Ok(Answer::Refused(refusal)),
+            Ok(Frame::Packet(_)) => Ok(Ok(Accepted::Packet)),
+            Ok(Frame::Setup(_)) => Ok(Err(Refusal::NotFrame)),
+            Err(refusal) => Ok(Err(refusal)),
         }
     }
 
     // Works a line, and appends the text of its answer.
-    pub(crate) fn answer_line(
+    fn answer_line(
         &mut self,
         heap: Global,
         line: &[u8],
@@ -149,5 +123,36 @@ impl<'a> Session<'a> {
         let answer = self.work(heap, line)?;
         answer_onto(out, answer, self.radio.latest())?;
         Ok(())
+    }
+}
+
+impl Trace<'_> {
+    // Answers a line before the set-up, which begins the session if it sets up a cell.
+    fn begin(&mut self, line: &[u8], out: &mut Vec<u8>) -> Result<(), AllocError>
+        ensures records { self.new.records.now ≡ self.old.records.now }
+        ensures begun { OnOk result (Begun (equipped (reads line.now)) self.old.records.now (standing_in self.new.session) (standing_in self.old.session) out.old.items out.new.items) }
+    {
+        match equip(line) {
+            Ok(equipped) => {
+                self.session = Some(Session::new(equipped, self.records));
+                setup_onto(out)
+            }
+            Err(refusal) => refusal_onto(out, refusal),
+        }
+    }
+
+    // Appends the answer to a line.
+    pub(crate) fn answer_line(
+        &mut self,
+        heap: Global,
+        line: &[u8],
+        out: &mut Vec<u8>,
+    ) -> Result<(), AllocError>
+        ensures { OnOk result ((later : List (List ℕ)) → out.old.items ++ answers_to self.old (line.now ∷ later) ≡ out.new.items ++ answers_to self.new later) }
+    {
+        match &mut self.session {
+            Some(session) => session.answer_line(heap, line, out),
+            None => self.begin(line, out),
+        }
     }
 }

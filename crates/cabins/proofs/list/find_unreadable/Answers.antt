@@ -1,16 +1,19 @@
-use Rattle.std.proofs.Common.{◌+◌, rules}
+use Rattle.std.proofs.Common.{◌≡◌, inl, rules, tests}
+use Rattle.std.specs.List.{position}
+use Rattle.std.proofs.lemmas.Iterator.Search.{position_from_yields_List}
 use Rattle.frames.specs.Lines.{lines_of}
-use Rattle.cabins.proofs.Walking.{unreadable_step, unreadable_end}
+use Rattle.cabins.proofs.Walking.{lines_yield, lines_few, unreadable, unreadable_is}
 use Rattle.cabins.proofs.list.find_unreadable.Goals as goal
 
-pub returns-then-is_none : goal.returns-then-is_none
-returns-then-is_none c = let e = unreadable_step (c.loop-line.number + 1) (lines_of c.loop-line.lines.rest.now) (lines_of c.next.new.self.rest.now) c.in-Some.line.now c.in-Some.ensures.line in search rules
+pub position-requires-clause-fits : goal.position-requires-clause-fits
+position-requires-clause-fits c = let few = lines_few c.new.result c.args.input.now c.new.ensures in inl (search rules)
 
-pub loop-line-preserved : goal.loop-line-preserved
-loop-line-preserved c =
-    let e = unreadable_step (c.loop-line.number + 1) (lines_of c.loop-line.lines.rest.now) (lines_of c.next.new.self.rest.now) c.in-Some.line.now c.in-Some.ensures.line in
-    let f = c.in-Some.ensures.falls in
-    (search rules, search rules)
+pub map-requires : goal.map-requires
+map-requires c = let few = lines_few c.new.result c.args.input.now c.new.ensures in search rules
 
 pub returns : goal.returns
-returns c = let e = unreadable_end (c.loop-line.number + 1) (lines_of c.loop-line.lines.rest.now) c.in_default.ensures.line in search rules
+returns c =
+    let t = c.args.input.now in
+    let e : c.position.result ≡ position unreadable (lines_of t) = position_from_yields_List unreadable c.position.new.self _ c.position.result c.position.ensures.ran (lines_yield c.new.result t c.new.ensures) (λ x b q k. search (rules, tests)) in
+    let u = unreadable_is 1 (lines_of t) in
+    search rules

@@ -1,17 +1,25 @@
-use Rattle.std.proofs.Common.{◌++◌, get_or, drop, vec_items, ap, ◌∙◌, arith}
-use Rattle.frames.specs.Lines.{lines_of}
-use Rattle.site.specs.Figures.{no_tally}
-use Rattle.cabins.specs.Texts.{cabin_line}
-use Rattle.cabins.proofs.Walking.{cabins_step, cabins_no_line, cabins_end}
+use Rattle.std.proofs.Common.{◌++◌, inl, inr, vec_items, refl, ap, ◌∙◌}
+use Rattle.std.specs.Iterator.Adapters.{zip_first, zip_second}
+use Rattle.std.specs.Slice.Iter.{iter_rest}
+use Rattle.std.proofs.lemmas.List.{append_assoc}
+use Rattle.std.proofs.lemmas.Slice.{pushed}
+use Rattle.frames.specs.Walks.{lines_left}
+use Rattle.cabins.specs.Entries.{word_of}
+use Rattle.cabins.specs.Texts.{cabin_text}
+use Rattle.cabins.proofs.Walking.{cabins_step, cabins_end}
 use Rattle.cabins.proofs.report.cabins_onto.Goals as goal
 
-pub returns-in_default : goal.returns-in_default
-returns-in_default c = cabins_no_line (vec_items c.loop-tally.out) (lines_of c.loop-tally.lines.rest.now) (drop c.loop-tally.tally-index c.args.tallies.now) _ c.in_default.ensures.line c.loop-tally.invariant
-
-pub loop-tally-preserved : goal.loop-tally-preserved
-loop-tally-preserved c =
-    cabins_step (vec_items c.loop-tally.out) (vec_items c.cabin_onto.new.out) (lines_of c.loop-tally.lines.rest.now) (lines_of c.next.new.self.rest.now) c.in-Some.line.now c.args.tallies.now c.loop-tally.tally-index no_tally _
-    c.in-Some.ensures.line (omega arith) (c.in_ok-cabin_onto.ensures ∙ ap (λ n. vec_items c.loop-tally.out ++ cabin_line n (get_or c.args.tallies.now c.loop-tally.tally-index no_tally)) c.name_of.ensures) c.loop-tally.invariant
+pub loop-line-preserved : goal.loop-line-preserved
+loop-line-preserved c =
+    let v = vec_items c.loop-line.out in
+    let l = word_of c.in-Some.line.now in
+    let t = cabin_text c.in-Some.tally.now in
+    let z = c.in-Some.ensures.steps in
+    let a = pushed c.name_of.result.now refl c.in_ok-extend_from_slice.was c.extend_from_slice.ensures.items in
+    let k = c.in_ok-append.ensures ∙ ap (λ y. y ++ t) (a ∙ ap (λ n. v ++ n) c.name_of.ensures) ∙ append_assoc v l t in
+    cabins_step v (vec_items c.append.new.out) _ _ c.in-Some.line.now _ _ c.in-Some.tally.now _ z.0.0 z.1 k c.loop-line.invariant
 
 pub returns : goal.returns
-returns c = cabins_end (vec_items c.loop-tally.out) (lines_of c.loop-tally.lines.rest.now) c.args.tallies.now c.loop-tally.tally-index _ (omega arith) c.loop-tally.invariant
+returns c =
+    let z = c.in-None.ensures.steps in
+    cabins_end _ (lines_left (zip_first c.loop-line.line-iterator)) (iter_rest (zip_second c.loop-line.line-iterator)) _ (elim z [ inl h ↦ inl h.1.0.0 | inr h ↦ inr h.1.0 ]) c.loop-line.invariant

@@ -1,5 +1,0 @@
-use Rattle.below.proofs.Taping.{keeps}
-use Rattle.below.proofs.tape.tapes_keep.Goals as goal
-
-pub returns : goal.returns
-returns c = keeps
