@@ -31,8 +31,8 @@ pub(crate) struct Ride<'a> {
 }
 
 impl<'a> Ride<'a> {
-    // It takes a cell that was set up: the check covers no Result of a struct that holds a `&mut` and a cell.
     // A cell over a tape that has taken nothing, a book of which nothing is used over a unit's heartbeat, and spans.
+    // The cell comes set up, and is not set up here: the check covers no Result of a struct that holds a `&mut` and a cell.
     pub(crate) fn new(
         cell: Cell,
         tape: &'a mut [u8],
