@@ -1,5 +1,5 @@
 -- Slots in the bytes of a tape: what a write to one leaves.
-use Rattle.std.proofs.Common.{◌≡◌, ℕ, ◌+◌, ◌-◌, ◌*◌, ◌/◌, ◌<◌, ◌≤◌, zero, suc, Bool, true, false, cond, ltb, List, ◌++◌, length, get_or, take, drop, refl, ap, ◌∙◌, arith, length-append, length-drop, take-append-drop, length-take, rules}
+use Rattle.std.proofs.Common.{◌≡◌, ℕ, ◌+◌, ◌-◌, ◌*◌, ◌/◌, ◌<◌, ◌≤◌, zero, suc, Bool, true, false, cond, leb, ltb, List, ◌++◌, length, get_or, take, drop, None, refl, ap, ◌∙◌, arith, length-append, length-drop, take-append-drop, length-take, rules}
 use borrow.Rule.Slice.PartMut.{put_mid}
 use Rattle.std.specs.Simd.{first_chunks}
 use Rattle.std.proofs.lemmas.List.{take_at, drop_at, drop-drop, drop-append-le, take-append-le, drop-take, take-take}
@@ -35,6 +35,14 @@ slot_with b s k h l =
     let n : length (take (661 * k) b) ≡ 661 * k = rw length-take (omega arith) in
     let d : drop (661 * k) (take (661 * k) b ++ (s ++ drop (661 * k + 661) b)) ≡ s ++ drop (661 * k + 661) b = drop_at (take (661 * k) b) (s ++ drop (661 * k + 661) b) (661 * k) n in
     rw d (take_at s (drop (661 * k + 661) b) 661 l)
+
+-- nothing stands in a slot past the last whole one
+pub past_slots : (b : List ℕ) (k : ℕ) → length b / 661 ≤ k → decoded (slot_at b k) ≡ None
+unfolding decoded slot_at
+past_slots b k h =
+    let n : length (take 661 (drop (661 * k) b)) < 661 = simp (length-take, length-drop) (omega arith) in
+    let f : leb 661 (length (take 661 (drop (661 * k) b))) ≡ false = search rules in
+    rw f
 
 -- a sending that was to be written to the part of slot k
 pub put_encoded : (b s : List ℕ) (k n : ℕ) (x : Sending) → n ≡ 661 → k < length b / 661 → s ≡ after_encoding (take n (drop (661 * k) b)) x → put_mid (661 * k) n b s ≡ written_at b k x

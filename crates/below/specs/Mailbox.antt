@@ -1,5 +1,5 @@
 -- The meaning of a mailbox.
-use Rattle.std.specs.Prelude.{◌^◌, cond, length, Some, None, Option}
+use Rattle.std.specs.Prelude.{◌^◌, cond, length, take, Some, None, Option}
 use Rattle.terms.specs.Sendings.{Sending, is_packet}
 use Rattle.ports.specs.Radio.{Radioed}
 use Rattle.below.specs.declared.mailbox.Mailbox.{Mailbox}
@@ -8,7 +8,7 @@ use Rattle.below.specs.declared.mailbox.kept.Kept.{Kept}
 -- what is kept, as a sending, if anything is
 abbrev pub kept_sending : Option Kept → Option Sending
 kept_sending None = None
-kept_sending (Some k) = Some (record { subframe = k.subframe; process = k.process; version = k.version; mcs = k.mcs; resource = k.resource; packet = k.packet.items })
+kept_sending (Some k) = Some (record { subframe = k.subframe; process = k.process; version = k.version; mcs = k.mcs; resource = k.resource; packet = take k.size k.packet })
 
 -- what is kept of a sending: the sending, if its bytes are a packet
 abbrev pub kept_of : Sending → Option Sending

@@ -1,6 +1,5 @@
 // A book of packets.
 ghost use Rattle.std.specs.Prelude.{◌≡◌};
-ghost use Rattle.below.specs.Fits.{left_fits};
 ghost use Rattle.below.specs.Book.{left, slice_bytes, first_record, waiting_for, book_offers, book_used, LiesIn};
 
 use crate::stretch::lay;
@@ -47,8 +46,6 @@ impl Source for Book<'_> {
     ghost offers = { book_offers };
 
     ghost used = { book_used };
-
-    ghost fits = { λ b n. left_fits (left b) n };
 
     fn waits(&self, size: usize) -> bool {
         self.waiting_for(size).is_some()

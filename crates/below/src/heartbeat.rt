@@ -1,6 +1,5 @@
 // A heartbeat: a source that never runs out.
 ghost use Rattle.std.specs.Prelude.{◌≡◌};
-ghost use Rattle.below.specs.Fits.{unit_fits};
 ghost use Rattle.below.specs.Heartbeat.{unit_waiting, heartbeat_offers, heartbeat_used};
 
 use crate::stretch::lay;
@@ -34,8 +33,6 @@ impl Source for Heartbeat {
     ghost offers = { heartbeat_offers };
 
     ghost used = { heartbeat_used };
-
-    ghost fits = { λ h n. unit_fits h.unit n };
 
     fn waits(&self, size: usize) -> bool {
         self.waiting_for(size).is_some()

@@ -1,6 +1,5 @@
 // A pile: two sources that are one.
 ghost use Rattle.std.specs.Prelude.{◌≡◌};
-ghost use Rattle.below.specs.Fits.{pile_fits};
 ghost use Rattle.below.specs.Piled.{pile_offers, pile_used};
 
 use ports::source::Source;
@@ -39,8 +38,6 @@ impl<First: Source, Second: Source> Source for Piled<First, Second> {
     ghost offers = { pile_offers First.Source.offers Second.Source.offers };
 
     ghost used = { pile_used First.Source.offers First.Source.used Second.Source.used };
-
-    ghost fits = { λ p n. pile_fits First.Source.offers Second.Source.offers p n (First.Source.fits p.first n) (Second.Source.fits p.second n) };
 
     fn waits(&self, size: usize) -> bool {
         self.first.waits(size) || self.second.waits(size)

@@ -1,5 +1,5 @@
 -- The promise over whole runs, on the calls.
-use Rattle.std.proofs.Common.{◌≡◌, ℕ, Bool, true, false, List, [], ◌∷◌, ◌++◌, length, Some, None, Ok, Err, Option, Result, sym, refl, ap, ◌∙◌, arith}
+use Rattle.std.proofs.Common.{◌≡◌, ℕ, Bool, true, false, List, [], ◌∷◌, ◌++◌, length, Some, None, Ok, Err, Option, Result, sym, refl, ap, ◌∙◌, subst, arith}
 use Rattle.terms.specs.Sendings.{Sending}
 use Rattle.terms.specs.declared.answer.Refusal.{Refusal}
 use Rattle.terms.specs.declared.setup.Setup.{Setup}
@@ -7,7 +7,7 @@ use Rattle.terms.specs.declared.grant.GrantInForce.{GrantInForce}
 use Rattle.terms.specs.declared.process.Feedback.{Feedback}
 use Rattle.terms.specs.declared.state.State.{State}
 use Rattle.ports.specs.Radio.{Radioed, told}
-use Rattle.ports.specs.Source.{FitsSize}
+use Rattle.ports.specs.Source.{FitsSize, FitsAsked}
 use Rattle.rules.specs.Entity.{Course, rests, begins, again}
 use Rattle.rules.specs.Subframe.{Event, deposits, process_events, answer_events, turn_done}
 use Rattle.rules.specs.Msg3.{Left, deposit, withdrawal}
@@ -23,9 +23,14 @@ pub keeps : (su : Setup) (w w' : World) (c : Call) → Accepted su → (step su 
 keeps su w w' c accepted e p same leads = let k = call_keeps su w c accepted p same leads in (k.0 ∙ e, k.1)
 
 -- a packet that is offered for a size fits it
-pub fits_of : (n : ℕ) (o : Option (List ℕ)) → FitsSize n o → (b : List ℕ) → o ≡ Some b → Fits n b
+fits_of : (n : ℕ) (o : Option (List ℕ)) → FitsSize n o → (b : List ℕ) → o ≡ Some b → Fits n b
 fits_of n None h b e = absurd (let z : ◌≡◌ {A = ℕ} 0 1 = cc in omega arith)
 fits_of n (Some p) h b e = let s : p ≡ b = cc in (h.0, h.1, ap length (sym s) ∙ h.2)
+
+-- a packet that is offered for the size that is asked for fits it
+pub fits_asked : (offers : ℕ → Option (List ℕ)) (o : Option ℕ) → FitsAsked offers o → (n : ℕ) → o ≡ Some n → (b : List ℕ) → offers n ≡ Some b → Fits n b
+fits_asked offers None h n e b k = absurd (let z : ◌≡◌ {A = ℕ} 0 1 = cc in omega arith)
+fits_asked offers (Some m) h n e b k = let s : m ≡ n = cc in fits_of n (offers n) (subst (λ x. FitsSize x (offers x)) s h) b k
 
 -- what the events of a subframe sent last is what the radio was told
 process_latest : (r : Radioed) (k t : ℕ) (g : Option GrantInForce) (gap : Bool) (c : Course) (x : Option Sending) (up : Bool) → (told r x).latest ≡ latest_sent (process_events k t g gap c x up) r.latest

@@ -1,16 +1,13 @@
 -- A packet written to the front of a stretch of packet memory.
-use Rattle.std.proofs.Common.{◌≡◌, ℕ, ◌+◌, ◌-◌, ◌*◌, ◌≤◌, true, List, length, Some, None, Option, unwrap_or, sym, ap, ◌∙◌, subst, arith, length-drop, length-take, append_assoc}
+use Rattle.std.proofs.Common.{◌≡◌, ℕ, ◌+◌, ◌-◌, ◌*◌, ◌≤◌, true, List, length, Some, Option, unwrap_or, sym, ap, ◌∙◌, subst, arith, length-drop, length-take, append_assoc}
 use Rattle.std.specs.List.{copy_within}
 use Rattle.terms.specs.declared.grant.GrantInForce.{GrantInForce}
 use Rattle.terms.specs.declared.grant.Reception.{Reception}
 use Rattle.terms.specs.declared.grant.Reception.TheVariants.{CRnti, TemporaryCRnti, SpsRetransmission, Configured, RandomAccessResponse}
-use Rattle.terms.specs.declared.decision.Decision.{Decision}
-use Rattle.terms.specs.declared.decision.Decision.TheVariants as decision
-use Rattle.ports.specs.Source.{FitsSize}
 use Rattle.rules.specs.Memory.{part, written}
 use Rattle.terms.specs.declared.decision.NewPacket.{NewPacket}
-use Rattle.rules.specs.Entity.{Fresh, obtained, obtained_by, offered, msg3_taken}
-use Rattle.rules.specs.Invariant.{FreshSized, Obtains}
+use Rattle.rules.specs.Entity.{Fresh, obtained, obtained_by, msg3_taken}
+use Rattle.rules.specs.Invariant.{FreshSized}
 use Rattle.cell.specs.Effects.{new_packet}
 
 part_length : (m : List ℕ) (k n : ℕ) → 645 * k + n ≤ length m → length (part m k n) ≡ n
@@ -38,31 +35,16 @@ module _ (g : GrantInForce) (msg3 : Option ℕ) (m : List ℕ) (offers : ℕ →
   from_msg3 : Some (record { from_msg3 = true; packet = part m 8 n }) ≡ obtained g msg3 m offers
   from_msg3 = ap (λ o. obtained_by o g.size m offers) taken
 
+  lengths : (1 ≤ n) × (n ≤ 645)
+  lengths = msg3_lengths g.reception msg3 n taken held
+
   whole : length (part m 8 n) ≡ n
-  whole = let z = msg3_lengths g.reception msg3 n taken held in part_length m 8 n (omega (arith, z.1))
+  whole = part_length m 8 n (omega (arith, lengths.1))
 
   pub msg3_packet : marked n ≡ new_packet (obtained g msg3 m offers)
   msg3_packet = ap marked (sym whole) ∙ ap new_packet from_msg3
 
--- a packet that a source offers, and one that is taken from Msg3, has 1 to 645 bytes
-offered_sized : (n : ℕ) (o : Option (List ℕ)) → FitsSize n o → FreshSized (offered o)
-offered_sized n None h = tt
-offered_sized n (Some b) h = (omega arith, omega arith)
-
-obtained_sized : (o : Option ℕ) (size : ℕ) (m : List ℕ) (offers : ℕ → Option (List ℕ)) → (1 ≤ unwrap_or o 1) × (unwrap_or o 1 ≤ 645) → FitsSize size (offers size) → 5805 ≤ length m → FreshSized (obtained_by o size m offers)
-obtained_sized (Some n) size m offers h f l = let e = part_length m 8 n (omega arith) in (omega arith, omega arith)
-obtained_sized None size m offers h f l = offered_sized size (offers size) f
-
-taken_sized : (r : Reception) (o : Option ℕ) → (1 ≤ unwrap_or o 1) × (unwrap_or o 1 ≤ 645) → (1 ≤ unwrap_or (msg3_taken r o) 1) × (unwrap_or (msg3_taken r o) 1 ≤ 645)
-taken_sized (CRnti x) o h = (omega arith, omega arith)
-taken_sized TemporaryCRnti o h = (omega arith, omega arith)
-taken_sized SpsRetransmission o h = (omega arith, omega arith)
-taken_sized Configured o h = (omega arith, omega arith)
-taken_sized RandomAccessResponse o h = h
-
--- what a decision obtains has 1 to 645 bytes
-pub obtains : (d : Decision) (o : Option ℕ) (m : List ℕ) (offers : ℕ → Option (List ℕ)) → ((n : ℕ) → FitsSize n (offers n)) → (1 ≤ unwrap_or o 1) × (unwrap_or o 1 ≤ 645) → 5805 ≤ length m → Obtains d o m offers
-obtains (decision.Rest c) o m offers f h l = tt
-obtains (decision.New g) o m offers f h l = obtained_sized (msg3_taken g.reception o) g.size m offers (taken_sized g.reception o h) (f g.size) l
-obtains (decision.Adaptive g) o m offers f h l = tt
-obtains decision.NonAdaptive o m offers f h l = tt
+  pub msg3_sized : FreshSized (obtained g msg3 m offers)
+  msg3_sized =
+      let P : Option Fresh → Type 0 = λ f. FreshSized f in
+      subst P from_msg3 (omega (arith, whole, lengths.0), omega (arith, whole, lengths.1))

@@ -2,11 +2,12 @@
 ghost use Rattle.std.specs.Prelude.{◌≡◌, ◌*◌, ◌≤◌, length, is_some, Some};
 ghost use Rattle.std.specs.Option.{unwrap_or};
 ghost use Rattle.ports.specs.Radio.{told};
-ghost use Rattle.ports.specs.Source.{source_after};
+ghost use Rattle.ports.specs.Source.{FitsSize, FitsAsked, source_after};
 ghost use Rattle.rules.specs.Memory.{part, written};
 ghost use Rattle.rules.specs.Entity.{msg3_taken, asked_by, obtained};
 ghost use Rattle.rules.specs.Process.{on_air};
 ghost use Rattle.rules.specs.Subframe.{sending_if, sending_by};
+ghost use Rattle.rules.specs.Invariant.{FreshSized};
 ghost use Rattle.cell.specs.Effects.{new_packet, with_packet, with_fresh};
 
 use crate::PACKET_MEMORY;
@@ -47,6 +48,7 @@ impl Stretch {
     fn fill<S: Source>(self, memory: &mut [u8; PACKET_MEMORY], source: &mut S, n: u16) -> bool
         requires { n ≤ 645 }
         ensures answer { result ≡ is_some (S.offers source.old n) }
+        ensures sizes { FitsSize n (S.offers source.old n) }
         ensures memory { memory.new ≡ with_packet memory.old self.number (S.offers source.old n) }
         ensures source { source.new ≡ source_after S.offers S.used source.old (Some n) }
     {
@@ -82,6 +84,8 @@ impl Stretch {
     ) -> Option<NewPacket>
         requires within { g.size ≤ 645 }
         requires bound { (1 ≤ unwrap_or msg3 1) × (unwrap_or msg3 1 ≤ 645) }
+        ensures sized { FreshSized (obtained g msg3 memory.old (S.offers source.old)) }
+        ensures fits { FitsAsked (S.offers source.old) (asked_by (msg3_taken g.reception msg3) g.size) }
         ensures packet { result ≡ new_packet (obtained g msg3 memory.old (S.offers source.old)) }
         ensures memory { memory.new ≡ with_fresh memory.old self.number (obtained g msg3 memory.old (S.offers source.old)) }
         ensures source { source.new ≡ source_after S.offers S.used source.old (asked_by (msg3_taken g.reception msg3) g.size) }

@@ -1,5 +1,6 @@
 // The subframe of a process, from the grant in force to the reply.
 ghost use Rattle.std.specs.Prelude.{◌≡◌};
+ghost use Rattle.ports.specs.Source.{FitsAsked};
 ghost use Rattle.rules.specs.Subframe.{process_done};
 ghost use Rattle.rules.specs.Invariant.{Sound, SizedGrant, NamedBelow};
 ghost use Rattle.cell.specs.Calls.{after_done};
@@ -32,6 +33,7 @@ impl Tti {
         requires named { NamedBelow self.setup.kind g }
         ensures whole { record { answer = result; state = state.new; memory = memory.new; radio = R.radioed roomy.exit.0.now; source = source.new } ≡ after_done S.offers S.used (R.radioed roomy.entry.radio.now) source.old (process_done self.setup state.old memory.old self.gap (S.offers source.old) g self.process).reply (process_done self.setup state.old memory.old self.gap (S.offers source.old) g self.process) }
         ensures sound { Sound self.setup state.new }
+        ensures fits { FitsAsked (S.offers source.old) (process_done self.setup state.old memory.old self.gap (S.offers source.old) g self.process).asked }
         ensures lender { R.lender roomy.exit.0.now ≡ R.lender roomy.entry.radio.now }
     {
         let p = HarqProcess {

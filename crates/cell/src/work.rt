@@ -3,11 +3,11 @@
 ghost use Rattle.std.specs.Prelude.{◌≡◌, ◌≤◌};
 ghost use Rattle.std.specs.Option.{unwrap_or};
 ghost use Rattle.ports.specs.Radio.{told};
-ghost use Rattle.ports.specs.Source.{source_after};
+ghost use Rattle.ports.specs.Source.{FitsAsked, source_after};
 ghost use Rattle.rules.specs.Entity.{course, asked, work_of, memory_after};
 ghost use Rattle.rules.specs.Subframe.{outcome_of, attempted, concluded, sending, sending_if, sending_by, repetition_by, repetition_after, finished, heard};
 ghost use Rattle.rules.specs.Process.{on_air};
-ghost use Rattle.rules.specs.Invariant.{Sane, Loaded, LoadedWork};
+ghost use Rattle.rules.specs.Invariant.{Sane, Obtains, Loaded, LoadedWork};
 
 use crate::PACKET_MEMORY;
 use crate::entity::{fetch, identify_answered};
@@ -75,6 +75,8 @@ impl Tti {
     ) -> Work
         requires sane { Sane p.process decision }
         requires bound { (1 ≤ unwrap_or msg3 1) × (unwrap_or msg3 1 ≤ 645) }
+        ensures obtains { Obtains decision msg3 memory.old (S.offers source.old) }
+        ensures fits { FitsAsked (S.offers source.old) (asked decision msg3) }
         ensures work { result ≡ work_of (course p.setup decision msg3 memory.old (S.offers source.old) p.process) }
         ensures memory { memory.new ≡ memory_after memory.old self.process (course p.setup decision msg3 memory.old (S.offers source.old) p.process) }
         ensures source { source.new ≡ source_after S.offers S.used source.old (asked decision msg3) }

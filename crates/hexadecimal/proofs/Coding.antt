@@ -1,10 +1,10 @@
 -- Text and bytes: lengths, places, and the steps of the loops.
-use Rattle.std.proofs.Common.{◌≡◌, ℕ, zero, suc, ◌+◌, ◌-◌, ◌*◌, ◌/◌, ◌<◌, ◌≤◌, ◌&&◌, List, [], ◌∷◌, ◌++◌, length, get_or, take, drop, Some, slice_get, sym, refl, ap, ◌∙◌, arith}
+use Rattle.std.proofs.Common.{◌≡◌, ℕ, zero, suc, ◌+◌, ◌-◌, ◌*◌, ◌/◌, ◌%◌, ◌<◌, ◌≤◌, ◌&&◌, List, [], ◌∷◌, ◌++◌, length, get_or, take, drop, Some, slice_get, sym, refl, ap, ◌∙◌, arith}
 use borrow.Rule.Slice.PartMut.{put_mid}
 use Rattle.std.specs.List.{list_all}
 use Rattle.std.proofs.lemmas.List.Recursion.{same_from_clauses}
-use Rattle.std.proofs.lemmas.List.{take_all, length-take-le, take_at, drop_at, drop-drop, append_assoc}
-use Rattle.hexadecimal.specs.Hex.{is_digit, digit_of, digits_of, all_digits, decoded, encoded, Partly}
+use Rattle.std.proofs.lemmas.List.{take_all, take_more, length-take-le, take_at, drop_at, drop-drop, append_assoc}
+use Rattle.hexadecimal.specs.Hex.{is_digit, digit_of, letter_of, digits_of, all_digits, decoded, encoded, Partly}
 
 pub length_decoded : (l : List ℕ) → length (decoded l) ≡ length l / 2
 unfolding decoded
@@ -45,6 +45,10 @@ unfolding encoded
 length_encoded [] = refl
 length_encoded (x ∷ xs) = let e = length_encoded xs in omega arith
 
+-- a list after what was held, with one item more of it taken
+pub push_more : (v v' d : List ℕ) (k x : ℕ) → k < length d → x ≡ get_or d k 0 → v' ≡ (v ++ take k d) ++ x ∷ [] → v' ≡ v ++ take (k + 1) d
+push_more v v' d k x h e f = f ∙ append_assoc v (take k d) (x ∷ []) ∙ ap (λ t. v ++ t) (ap (λ y. take k d ++ y ∷ []) e ∙ sym (take_more d k 0 h))
+
 -- a list after what was held, once all of it is taken
 pub push_all : (v v' d : List ℕ) (n : ℕ) → length d ≤ n → v' ≡ v ++ take n d → v' ≡ v ++ d
 push_all v v' d n h e = e ∙ ap (λ t. v ++ t) (take_all n d h)
@@ -58,6 +62,16 @@ take_digits (x ∷ xs) (suc i) h =
     let e : 2 * (suc i + 1) ≡ suc (suc (2 * (i + 1))) = omega arith in
     let f : 2 * suc i ≡ suc (suc (2 * i)) = omega arith in
     rw (e, f) (ap (λ t. digits_of x ++ t) (take_digits xs i (omega arith)))
+
+-- the two digits of the byte at a place
+pub get_or_encoded : (b : List ℕ) (k : ℕ) → k < length b → (get_or (encoded b) (2 * k) 0 ≡ letter_of (get_or b k 0 / 16)) × (get_or (encoded b) (2 * k + 1) 0 ≡ letter_of (get_or b k 0 % 16))
+unfolding encoded
+get_or_encoded [] k h = absurd (omega arith)
+get_or_encoded (x ∷ xs) zero h = (refl, refl)
+get_or_encoded (x ∷ xs) (suc k) h =
+    let e : 2 * suc k ≡ suc (suc (2 * k)) = omega arith in
+    let f : 2 * suc k + 1 ≡ suc (suc (2 * k + 1)) = omega arith in
+    rw (f, e) (get_or_encoded xs k (omega arith))
 
 pub digits_pushed : (v v' b d : List ℕ) (i : ℕ) → i < length b → d ≡ digits_of (get_or b i 0) → v' ≡ (v ++ take (2 * i) (encoded b)) ++ d → v' ≡ v ++ take (2 * (i + 1)) (encoded b)
 digits_pushed v v' b d i h e f = f ∙ append_assoc v (take (2 * i) (encoded b)) d ∙ ap (λ t. v ++ t) (ap (λ y. take (2 * i) (encoded b) ++ y) e ∙ sym (take_digits b i h))

@@ -10,3 +10,8 @@ FitsSize n (Some p) = (1 ≤ n) × (n ≤ 645) × (length p ≡ n)
 abbrev pub source_after : {S : Type 0} → (S → ℕ → Option (List ℕ)) → (S → ℕ → S) → S → Option ℕ → S
 source_after offers used s None = s
 source_after offers used s (Some n) = cond (is_some (offers s n)) (used s n) s
+
+-- what a source offers for the size that it is asked for, if it is asked, fits
+abbrev pub FitsAsked : (ℕ → Option (List ℕ)) → Option ℕ → Type 0
+FitsAsked offers None = Unit {0}
+FitsAsked offers (Some n) = FitsSize n (offers n)

@@ -10,16 +10,15 @@ pub trait Source {
     // the source once the packet of a size was used
     ghost used: { Self → ℕ → Self };
 
-    // Whether a packet waits for a size.
+    // Whether a packet waits for a size. One that does has that size, and the size is 1 to 645.
     fn waits(&self, size: usize) -> bool
-        ensures { result ≡ is_some (offers self.now size) };
+        ensures answer { result ≡ is_some (offers self.now size) }
+        ensures sizes { FitsSize size (offers self.now size) };
 
     // Writes the packet of the stretch's size into it, or says no and alters nothing.
     fn fill(&mut self, stretch: &mut [u8]) -> bool
+        ensures sizes { FitsSize (length stretch.old) (offers self.old (length stretch.old)) }
         ensures answer { result ≡ is_some (offers self.old (length stretch.old)) }
         ensures bytes { stretch.new ≡ unwrap_or (offers self.old (length stretch.old)) stretch.old }
         ensures after { self.new ≡ source_after offers used self.old (Some (length stretch.old)) };
-
-    // a packet that waits for a size has that size, which is 1 to 645
-    ghost fits: { (source : Self) (size : ℕ) → FitsSize size (offers source size) };
 }

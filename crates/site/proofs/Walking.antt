@@ -1,5 +1,5 @@
 -- A walk over the tallies of a site, one at a time.
-use Rattle.std.proofs.Common.{◌≡◌, ℕ, zero, suc, ◌+◌, ◌*◌, ◌^◌, ◌<◌, ◌≤◌, true, ◌&&◌, List, [], ◌∷◌, ◌++◌, map, length, get_or, take, drop, set, refl, ap, ◌∙◌, arith, rules}
+use Rattle.std.proofs.Common.{◌≡◌, ℕ, zero, suc, ◌+◌, ◌*◌, ◌^◌, ◌<◌, ◌≤◌, true, ◌&&◌, List, [], ◌∷◌, ◌++◌, map, length, get_or, take, drop, set, sym, refl, ap, ◌∙◌, subst, arith, rules}
 use Rattle.std.proofs.lemmas.List.{take_all, drop_all, append-nil, get_or_default}
 use Rattle.std.proofs.lemmas.List.Recursion.{same_from_clauses, is_sum_by, and_at}
 use Rattle.std.specs.List.{list_all, sum_by}
@@ -35,7 +35,7 @@ each_its_own [] = tt
 each_its_own (t ∷ ts) = (refl, refl, figure_meant t.packets t.sendings, each_its_own ts)
 
 -- how many tallies a site has, and that their counts hold
-site_parts : (ts : List Tally) → is_site ts ≡ true → (length ts ≤ 400) × (all_hold ts ≡ true)
+pub site_parts : (ts : List Tally) → is_site ts ≡ true → (length ts ≤ 400) × (all_hold ts ≡ true)
 site_parts ts e = (search rules, search rules)
 
 -- the sums of a site's counts
@@ -45,28 +45,39 @@ site_sums ts e =
     let few = totals_small ts s.1 in
     (omega (arith, total_packets_is ts), omega (arith, total_sendings_is ts))
 
--- the sendings of a tally in a list whose counts hold
-sendings_small : (ts : List Tally) (i : ℕ) → all_hold ts ≡ true → i < length ts → (get_or ts i no_tally).sendings ≤ 2 ^ 40
+-- the counts of a tally in a list whose counts hold
+pub counts_small : (ts : List Tally) (i : ℕ) → all_hold ts ≡ true → i < length ts → ((get_or ts i no_tally).packets ≤ 2 ^ 40) × ((get_or ts i no_tally).sendings ≤ 2 ^ 40)
 unfolding all_hold
-sendings_small ts i e h = let k = and_at all_hold counts_hold refl (λ _ _. refl) ts i no_tally h e in search rules
+counts_small ts i e h = let k = and_at all_hold counts_hold refl (λ _ _. refl) ts i no_tally h e in (search rules, search rules)
 
 -- the tallies when the walk comes to the one at i: those before it have their figures
 abbrev pub figured_to : ℕ → List Tally → List Tally
 figured_to i ts = map figured (take i ts) ++ drop i ts
 
+length_figured : (ts : List Tally) (i : ℕ) → length (figured_to i ts) ≡ length ts
+length_figured ts zero = refl
+length_figured [] (suc i) = refl
+length_figured (t ∷ ts) (suc i) = ap suc (length_figured ts i)
+
 -- the walk goes on
-pub figured_more : (ts us : List Tally) (i : ℕ) (t : Tally) → i < length ts → length us ≡ length ts → us ≡ figured_to i ts → t ≡ figured (get_or us i no_tally) → set us i t ≡ figured_to (i + 1) ts
-figured_more ts us i t h l e f = ap (set us i) f ∙ map_over_more figured ts us i (get_or us i no_tally) h e (get_or_default us i no_tally (get_or us i no_tally) (omega arith))
+pub figured_more : (ts us : List Tally) (i : ℕ) (t : Tally) → i < length ts → us ≡ figured_to i ts → t ≡ figured (get_or us i no_tally) → set us i t ≡ figured_to (i + 1) ts
+figured_more ts us i t h e f =
+    let l : length us ≡ length ts = ap length e ∙ length_figured ts i in
+    ap (set us i) f ∙ map_over_more figured ts us i (get_or us i no_tally) h e (get_or_default us i no_tally (get_or us i no_tally) (omega arith))
 
 pub figured_all : (ts us : List Tally) (i : ℕ) → length ts ≤ i → us ≡ figured_to i ts → us ≡ all_figured ts
 unfolding all_figured
 figured_all ts us i h e = e ∙ rw (take_all i ts h, drop_all i ts h, append-nil)
 
 -- the tally that the walk comes to is as it was
-still_there : (ts : List Tally) (i : ℕ) → i < length ts → get_or (figured_to i ts) i no_tally ≡ get_or ts i no_tally
-still_there [] i h = absurd (omega arith)
-still_there (t ∷ ts) zero h = refl
-still_there (t ∷ ts) (suc i) h = still_there ts i (omega arith)
+pub still_there : (ts : List Tally) (i : ℕ) (d e : Tally) → i < length ts → get_or (figured_to i ts) i d ≡ get_or ts i e
+still_there [] i d e h = absurd (omega arith)
+still_there (t ∷ ts) zero d e h = refl
+still_there (t ∷ ts) (suc i) d e h = still_there ts i d e (omega arith)
 
-pub come_to : (ts us : List Tally) (i : ℕ) → is_site ts ≡ true → us ≡ figured_to i ts → i < length ts → (get_or us i no_tally).sendings ≤ 2 ^ 40
-come_to ts us i site e h = rw (e, still_there ts i h) (sendings_small ts i (site_parts ts site).1 h)
+-- the walk comes to the tally at i of a site
+pub come_to : (ts us : List Tally) (i : ℕ) → is_site ts ≡ true → us ≡ figured_to i ts → i < length ts → (get_or us i no_tally ≡ get_or ts i no_tally) × ((get_or us i no_tally).packets ≤ 2 ^ 40) × ((get_or us i no_tally).sendings ≤ 2 ^ 40)
+come_to ts us i site e h =
+    let there : get_or us i no_tally ≡ get_or ts i no_tally = ap (λ l. get_or l i no_tally) e ∙ still_there ts i no_tally no_tally h in
+    let small = counts_small ts i (site_parts ts site).1 h in
+    (there, subst (λ (t : Tally). t.packets ≤ 2 ^ 40) (sym there) small.0, subst (λ (t : Tally). t.sendings ≤ 2 ^ 40) (sym there) small.1)

@@ -54,12 +54,16 @@ pub fn encode(stretch: &mut [u8], instruction: Instruction<'_>) -> bool
 pub fn decode(bytes: &[u8]) -> Option<Instruction<'_>>
     ensures { told_of result ≡ decoded bytes.now }
 {
+    // asked once, so that no part below has to ask again
+    if bytes.len() < SLOT {
+        return None;
+    }
     let (subframe, rest) = bytes.split_first_chunk::<8>()?;
     let (&[process, version, mcs, _], rest) = rest.split_first_chunk::<4>()?;
     let (resource, rest) = rest.split_first_chunk::<2>()?;
     let (size, rest) = rest.split_first_chunk::<2>()?;
     let size = usize::from(u16::from_be_bytes(*size));
-    if rest.len() < LONGEST_PACKET || !is_packet_size(size) {
+    if !is_packet_size(size) {
         return None;
     }
     Some(Instruction {

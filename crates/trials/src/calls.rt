@@ -60,11 +60,11 @@ struct Bench {
 }
 
 impl Bench {
-    // A plain cell from its first subframe on.
-    fn new(start: u64) -> Result<Bench, Refusal> {
+    // A plain cell from its first subframe on, over packet memory that is filled with a byte.
+    fn new(start: u64, byte: u8) -> Result<Bench, Refusal> {
         Ok(Bench {
             cell: Cell::set_up(0, 3, 3, 0, start)?,
-            memory: [1; 5805],
+            memory: [byte; 5805],
             radio: Mailbox::new(),
             book: Book::new(&RECORD),
             gaps: Pattern::new(0, 0)?,
@@ -115,7 +115,7 @@ impl Bench {
 // A refused subframe leaves the clock, the radio and the book as they were.
 #[test]
 fn memory_and_radio(rt: HostRuntime) -> Result<(), Fail> {
-    let mut bench = Bench::new(0)?;
+    let mut bench = Bench::new(0, 0)?;
     let short = bench.subframe_in(&mut [0; 5804], Some(GRANT));
     assert_eq!(rt; short.map_err(u8::from), Err(5));
     let long = bench.subframe_in(&mut [0; 5806], Some(GRANT));
@@ -134,7 +134,7 @@ fn memory_and_radio(rt: HostRuntime) -> Result<(), Fail> {
 #[test]
 fn end_of_the_clock(rt: HostRuntime) -> Result<(), Fail> {
     assert!(rt; Cell::set_up(0, 3, 3, 0, 0x1_0000_0000_0000).is_err());
-    let mut bench = Bench::new(0xffff_ffff_ffff)?;
+    let mut bench = Bench::new(0xffff_ffff_ffff, 0)?;
     let reply = bench.subframe(Some(GRANT))?;
     assert!(rt; reply.outcome == Outcome::Sent && reply.process == 7);
     assert!(rt; bench.cell.clock() == 0x1_0000_0000_0000);
@@ -149,7 +149,7 @@ fn end_of_the_clock(rt: HostRuntime) -> Result<(), Fail> {
 // One packet is sent three times and given up, and the mailbox keeps the last sending.
 #[test]
 fn tally_and_latest(rt: HostRuntime) -> Result<(), Fail> {
-    let mut bench = Bench::new(0)?;
+    let mut bench = Bench::new(0, 0)?;
     assert_eq!(rt;
         bench.cell.tally(),
         Tally {
@@ -183,7 +183,7 @@ fn tally_and_latest(rt: HostRuntime) -> Result<(), Fail> {
 // The largest packet is padded from two bytes; a larger one is refused.
 #[test]
 fn largest_packet(rt: HostRuntime) -> Result<(), Fail> {
-    let mut bench = Bench::new(7)?;
+    let mut bench = Bench::new(7, 1)?;
     let largest = Grant { size: 645, ..GRANT };
     let larger = Grant { size: 646, ..GRANT };
     assert_eq!(rt; bench.subframe(Some(larger)).map_err(u8::from), Err(9));

@@ -1,4 +1,5 @@
-// Heartbeats, piles and span lists at their edges.
+// Heartbeats, piles, zeros and span lists at their edges.
+use crate::sources::{Zeros, asks};
 use below::book::Book;
 use below::heartbeat::Heartbeat;
 use below::piled::Piled;
@@ -54,6 +55,28 @@ fn pile_with_heartbeat_first(rt: HostRuntime) {
     assert!(rt; pile.fill(&mut stretch) && stretch == [0xca, 0xb1, 0, 7]);
     assert!(rt; pile.fill(&mut stretch[..3]) && stretch == [0xa1, 0xb2, 0, 7]);
     assert!(rt; !pile.second().waits(645) && !pile.waits(3) && pile.waits(4));
+}
+
+// Zeros wait for 1 byte up to their bound, and fill with zeros.
+#[test]
+fn zeros_up_to_a_bound(rt: HostRuntime) {
+    let mut source = Zeros { most: 3 };
+    for (size, waits) in [(0, false), (1, true), (2, true), (3, true), (4, false)] {
+        assert!(rt; source.waits(size) == waits);
+    }
+    let mut stretch = [9; 5];
+    assert!(rt; !source.fill(&mut stretch[..4]) && stretch == [9; 5]);
+    assert!(rt; source.fill(&mut stretch[..3]) && stretch == [0, 0, 0, 9, 9]);
+    assert!(rt; source.fill(&mut stretch[3..4]) && stretch == [0, 0, 0, 0, 9]);
+}
+
+// Sources of two kinds, asked through one function.
+#[test]
+fn sources_asked(rt: HostRuntime) {
+    let zeros = Zeros { most: 255 };
+    let heartbeat = Heartbeat::new(UNIT);
+    assert!(rt; asks(&zeros, 255) && !asks(&zeros, 256));
+    assert!(rt; asks(&heartbeat, 645) && !asks(&heartbeat, 646));
 }
 
 // An empty span, a reversed one, two that touch, and one at each end of the numbers.

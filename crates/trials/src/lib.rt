@@ -5,6 +5,7 @@
 mod calls;
 #[cfg(test)]
 mod kinds;
+pub mod sources;
 #[cfg(test)]
 mod tapes;
 #[cfg(test)]

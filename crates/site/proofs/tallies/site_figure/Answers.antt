@@ -16,7 +16,7 @@ of-requires c =
     search rules
 
 pub loop-tally-preserved : goal.loop-tally-preserved
-loop-tally-preserved c = figured_more c.args.tallies.now c.loop-tally.tallies c.loop-tally.tally-index _ c.loop-tally-test.true c.loop-tally.auto.tallies c.loop-tally.invariant (search rules)
+loop-tally-preserved c = figured_more c.args.tallies.now c.loop-tally.tallies c.loop-tally.tally-index _ c.loop-tally-test.true c.loop-tally.invariant (search rules)
 
 pub invariant_of-site : goal.invariant_of-site
 invariant_of-site c =

@@ -58,14 +58,14 @@ invariant_of-self g c =
 pub returns-in_err-memory-clause-promise : goal.returns-in_err-memory-clause-promise
 returns-in_err-memory-clause-promise g c =
     let z = refused g.S.Source.offers g.S.Source.used c.args.self.now.setup c.args.self.now.state c.args.memory.now (g.R.Radio.radioed c.args.radio.now) c.args.source.now (g.G.GapPlan.covered c.args.gaps.now)
-    c.args.answer c.args.grant (accepted_cell c.args.self.now) (g.met.S.Source.fits c.args.source.now) PacketMemory (search rules) in
+    c.args.answer c.args.grant (accepted_cell c.args.self.now) PacketMemory (search rules) in
     z.promise
 
 pub returns-in_err-ask-clause-promise : goal.returns-in_err-ask-clause-promise
 returns-in_err-ask-clause-promise g c =
     let h = lent g (goal.at.returns-in_err-ask-clause-promise g c).In_ok-memory in
     let z = refused g.S.Source.offers g.S.Source.used c.args.self.now.setup c.args.self.now.state c.args.memory.now (g.R.Radio.radioed c.args.radio.now) c.args.source.now (g.G.GapPlan.covered c.args.gaps.now)
-    c.args.answer c.args.grant (accepted_cell c.args.self.now) (g.met.S.Source.fits c.args.source.now) c.in_err-ask.field-0.0 (search rules) in
+    c.args.answer c.args.grant (accepted_cell c.args.self.now) c.in_err-ask.field-0.0 (search rules) in
     rw h.1 z.promise
 
 pub returns-in_default : goal.returns-in_default
@@ -74,7 +74,7 @@ returns-in_default g c =
     let h = lent g p.In_ok-memory in
     let eo : None ≡ process_of c.args.self.now.setup.kind c.args.self.now.state.clock c.force-g.result c.take_answer.new.state.repetition = search rules in
     let z = done g.S.Source.offers g.S.Source.used c.args.self.now.setup c.args.self.now.state c.args.memory.now (g.R.Radio.radioed c.args.radio.now) c.args.source.now (g.G.GapPlan.covered c.args.gaps.now)
-    c.args.answer c.args.grant (accepted_cell c.args.self.now) (g.met.S.Source.fits c.args.source.now) (stages g p.After-store-self h.0) None eo _ refl in
+    c.args.answer c.args.grant (accepted_cell c.args.self.now) (stages g p.After-store-self h.0) None eo tt _ refl in
     rw h.1 (record { whole = z.whole; setup = refl; promise = z.promise; latest = z.latest; standard = z.standard; lender = refl })
 
 pub returns : goal.returns
@@ -82,5 +82,5 @@ returns g c =
     let p = goal.at.returns g c in
     let h = lent g p.In_ok-memory in
     let z = done g.S.Source.offers g.S.Source.used c.args.self.now.setup c.args.self.now.state c.args.memory.now (g.R.Radio.radioed c.args.radio.now) c.args.source.now (g.G.GapPlan.covered c.args.gaps.now)
-    c.args.answer c.args.grant (accepted_cell c.args.self.now) (g.met.S.Source.fits c.args.source.now) (stages g p.After-store-self h.0) (Some c.in-Some.process) c.in-Some.ensures _ (rw (h.1, c.covers-gap.ensures) at c.turn.ensures.whole) in
+    c.args.answer c.args.grant (accepted_cell c.args.self.now) (stages g p.After-store-self h.0) (Some c.in-Some.process) c.in-Some.ensures c.turn.ensures.fits _ (rw (h.1, c.covers-gap.ensures) at c.turn.ensures.whole) in
     record { whole = z.whole; setup = refl; promise = z.promise; latest = z.latest; standard = z.standard; lender = c.turn.ensures.lender }

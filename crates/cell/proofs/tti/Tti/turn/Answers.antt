@@ -1,8 +1,6 @@
-use Rattle.std.proofs.Common.{arith}
 use Rattle.rules.specs.Invariant.{LoadedWork}
 use Rattle.rules.proofs.Keeping.{sane}
 use Rattle.cell.proofs.Turning.{loaded_turn, sound_turn}
-use Rattle.cell.proofs.Writing.{obtains}
 use Rattle.cell.proofs.tti.Tti.turn.Given as given
 use Rattle.cell.proofs.tti.Tti.turn.Goals.{After-begin-work}
 use Rattle.cell.proofs.tti.Tti.turn.Goals as goal
@@ -11,7 +9,7 @@ use Rattle.cell.proofs.tti.Tti.turn.Goals as goal
 loaded : (g : given.Over) (c : After-begin-work g) → LoadedWork c.args.self.setup c.begin-work.result
 loaded g c =
     loaded_turn c.args.self.setup c.args.state.now c.args.memory.now (g.S.Source.offers c.args.source.now) c.args.g c.args.self.process c.requires.sound c.requires.sized c.args.self.one_of_eight
-    c.fetch.result c.refer.result c.decide-decision.result c.begin-work.result c.fetch.ensures c.refer.ensures c.decide-decision.ensures (obtains c.decide-decision.result c.args.state.now.msg3 c.args.memory.now (g.S.Source.offers c.args.source.now) (g.met.S.Source.fits c.args.source.now) (c.requires.sound.shortest, c.requires.sound.longest) (omega arith)) c.begin-work.ensures.work
+    c.fetch.result c.refer.result c.decide-decision.result c.begin-work.result c.fetch.ensures c.refer.ensures c.decide-decision.ensures c.begin-work.ensures.obtains c.begin-work.ensures.work
 
 pub begin-work-requires-clause-sane : goal.begin-work-requires-clause-sane
 begin-work-requires-clause-sane g c = rw c.decide-decision.ensures (sane c.args.self.setup c.args.g c.refer.result c.requires.sized)
