@@ -1,5 +1,5 @@
 // The tallies of a site, one for each cabin.
-ghost use Rattle.std.specs.Prelude.{◌≡◌, IfOk, MatchResult};
+ghost use Rattle.std.specs.Prelude.{◌≡◌, true, IfOk, MatchResult};
 ghost use Rattle.site.specs.Figures.{IsFigure};
 ghost use Rattle.site.specs.Sites.{is_site, site_answer, site_after, total_packets, total_sendings, EachItsOwn};
 
@@ -17,6 +17,18 @@ fn is_site(tallies: &[Tally]) -> bool
     (1..=MOST_CABINS).contains(&tallies.len()) && tallies.iter().all(counts_hold)
 }
 
+// The packets and the sendings of all cabins together.
+fn sum_up(tallies: &[Tally]) -> Counts
+    requires { is_site tallies.now ≡ true }
+    ensures packets { result.packets ≡ total_packets tallies.now }
+    ensures sendings { result.sendings ≡ total_sendings tallies.now }
+{
+    Counts {
+        packets: tallies.iter().map(|tally| tally.packets).sum(),
+        sendings: tallies.iter().map(|tally| tally.sendings).sum(),
+    }
+}
+
 // Writes each cabin's own figure into its tally, and returns the figure of the sums.
 pub fn site_figure(tallies: &mut [Tally]) -> Result<u64, Refusal>
     ensures answer { result ≡ site_answer tallies.old }
@@ -27,10 +39,7 @@ pub fn site_figure(tallies: &mut [Tally]) -> Result<u64, Refusal>
     if !is_site(tallies) {
         return Err(Refusal::SiteList);
     }
-    let site = Counts {
-        packets: tallies.iter().map(|tally| tally.packets).sum(),
-        sendings: tallies.iter().map(|tally| tally.sendings).sum(),
-    };
+    let site = sum_up(tallies);
     for tally in tallies.iter_mut() {
         tally.figure = Counts::of(tally).figure();
     }

@@ -1,14 +1,6 @@
 use Rattle.std.proofs.Common.{rules}
-use Rattle.site.proofs.Walking.{site_sums, come_to, total_packets_is, total_sendings_is, figured_more, figured_all, each_its_own}
+use Rattle.site.proofs.Walking.{come_to, figured_more, figured_all, each_its_own}
 use Rattle.site.proofs.tallies.site_figure.Goals as goal
-
-pub sum-requires-clause-fits : goal.sum-requires-clause-fits
-sum-requires-clause-fits c =
-    let few = site_sums c.args.tallies.now (search rules) in search rules
-
-pub sum-requires-2-clause-fits : goal.sum-requires-2-clause-fits
-sum-requires-2-clause-fits c =
-    let few = site_sums c.args.tallies.now (search rules) in search rules
 
 pub of-requires : goal.of-requires
 of-requires c =
@@ -18,15 +10,9 @@ of-requires c =
 pub loop-tally-preserved : goal.loop-tally-preserved
 loop-tally-preserved c = figured_more c.args.tallies.now c.loop-tally.tallies c.loop-tally.tally-index _ c.loop-tally-test.true c.loop-tally.invariant (search rules)
 
-pub invariant_of-site : goal.invariant_of-site
-invariant_of-site c =
-    let few = site_sums c.args.tallies.now (search rules) in search rules
-
 pub returns : goal.returns
 returns c =
     let ts = c.args.tallies.now in
-    let a = total_packets_is ts in
-    let b = total_sendings_is ts in
     let e = figured_all ts c.loop-tally.tallies c.loop-tally.tally-index c.loop-tally-test.false c.loop-tally.invariant in
     let o = each_its_own ts in
     search rules

@@ -1,5 +1,6 @@
 use Rattle.std.proofs.Common.{◌≡◌, ℕ, ◌<◌, Bool, true, false, List, length, MatchBool, refl, ◌∙◌, arith, rules, tests}
 use Rattle.std.specs.List.{HoldsAt, AllWithin}
+use Rattle.std.proofs.lemmas.List.{take_all}
 use Rattle.std.proofs.lemmas.Iterator.{cases_from_any, YieldsList-from_slice}
 use Rattle.std.proofs.lemmas.List.Recursion.{or_is, or_at}
 use Rattle.below.specs.declared.spans.Span.{Span}
@@ -16,7 +17,7 @@ unfolding spans_cover
 returns c =
     let l = c.args.self.now.spans.now in
     let t = c.args.subframe in
-    let m = told l t c.any.result (cases_from_any _ _ c.any.result (λ s. span_covers s t ≡ true) (λ s. span_covers s t ≡ false) c.any.ensures.ran (YieldsList-from_slice l cc) (λ x q k. search (rules, tests)) (λ x q k. search (rules, tests))) in
+    let m = told l t c.any.result (cases_from_any _ _ c.any.result (λ s. span_covers s t ≡ true) (λ s. span_covers s t ≡ false) c.any.ensures.ran (YieldsList-from_slice l (search (rules, take_all))) (λ x q k. search (rules, tests)) (λ x q k. search (rules, tests))) in
     let computed : c.any.result ≡ spans_cover l t = or_is (λ l. spans_cover l t) (λ s. span_covers s t) refl (λ _ _. refl) l (record { from = 0; to = 0 }) c.any.result (λ e. search rules) m.1 in
     record {
       computed = computed;
