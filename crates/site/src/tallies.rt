@@ -1,7 +1,7 @@
 // The tallies of a site, one for each cabin.
 ghost use Rattle.std.specs.Prelude.{◌≡◌, true, IfOk, MatchResult};
 ghost use Rattle.site.specs.Figures.{IsFigure};
-ghost use Rattle.site.specs.Sites.{is_site, site_answer, site_after, total_packets, total_sendings, EachItsOwn};
+ghost use Rattle.site.specs.Sites.{is_site, site_answer, site_after, total_packets, total_sendings, all_figured, EachItsOwn};
 
 use crate::figure::{Counts, counts_hold};
 use terms::answer::Refusal;
@@ -29,6 +29,17 @@ fn sum_up(tallies: &[Tally]) -> Counts
     }
 }
 
+// Writes each cabin's own figure into its tally.
+fn write_figures(tallies: &mut [Tally])
+    requires { is_site tallies.old ≡ true }
+    ensures after { tallies.new ≡ all_figured tallies.old }
+    ensures own { EachItsOwn tallies.old tallies.new }
+{
+    for tally in tallies.iter_mut() {
+        tally.figure = Counts::of(tally).figure();
+    }
+}
+
 // Writes each cabin's own figure into its tally, and returns the figure of the sums.
 pub fn site_figure(tallies: &mut [Tally]) -> Result<u64, Refusal>
     ensures answer { result ≡ site_answer tallies.old }
@@ -40,8 +51,6 @@ pub fn site_figure(tallies: &mut [Tally]) -> Result<u64, Refusal>
         return Err(Refusal::SiteList);
     }
     let site = sum_up(tallies);
-    for tally in tallies.iter_mut() {
-        tally.figure = Counts::of(tally).figure();
-    }
+    write_figures(tallies);
     Ok(site.figure())
 }

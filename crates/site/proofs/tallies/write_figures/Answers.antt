@@ -1,6 +1,6 @@
 use Rattle.std.proofs.Common.{rules}
 use Rattle.site.proofs.Walking.{come_to, figured_more, figured_all, each_its_own}
-use Rattle.site.proofs.tallies.site_figure.Goals as goal
+use Rattle.site.proofs.tallies.write_figures.Goals as goal
 
 pub of-requires : goal.of-requires
 of-requires c =
